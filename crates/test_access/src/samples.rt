@@ -58,7 +58,7 @@ pub(crate) fn drain(
 }
 
 /// What a server hands on of octets that come in pieces of this length, and why it ends.
-pub(crate) fn handed(
+pub(crate) fn handed_in_pieces(
     alloc: Global,
     challenge: [u8; 32],
     octets: &[u8],

@@ -1,8 +1,8 @@
 //! Sessions, and everything that can be wrong with one.
 
 use crate::samples::{
-    ALL, CHALLENGE, HANDED, KEYS, NONCE, REQUESTS, drain, greeting, handed, records, session,
-    visitor,
+    ALL, CHALLENGE, HANDED, KEYS, NONCE, REQUESTS, drain, greeting, handed_in_pieces, records,
+    session, visitor,
 };
 use std::alloc::Global;
 use std::test::Fail;
@@ -55,7 +55,7 @@ fn whole_within(octets: usize) -> usize {
 }
 
 /// What is to be handed on of the records that end there.
-fn wanted(octets: usize) -> &'static [u8] {
+fn expected_octets(octets: usize) -> &'static [u8] {
     let count = HANDED.get(whole_within(octets)).copied().unwrap_or(0);
     ALL.get(..count).unwrap_or(b"")
 }
@@ -65,8 +65,8 @@ fn cuts_hold(alloc: Global) -> Result<bool, EntranceFault> {
     let octets = session(alloc, 2, REQUESTS)?;
     for end in 0..octets.len() + 1 {
         for step in [1, 50, 500] {
-            let (got, _) = handed(alloc, CHALLENGE, &octets[..end], step)?;
-            if got.as_slice() != wanted(end) {
+            let (got, _) = handed_in_pieces(alloc, CHALLENGE, &octets[..end], step)?;
+            if got.as_slice() != expected_octets(end) {
                 return Ok(false);
             }
         }
@@ -83,8 +83,8 @@ fn changes_hold(alloc: Global) -> Result<bool, EntranceFault> {
             changed.extend_from_slice(&octets[..place])?;
             changed.extend_from_slice(&[octets[place] ^ change])?;
             changed.extend_from_slice(&octets[place + 1..])?;
-            let (got, _) = handed(alloc, CHALLENGE, &changed, 60)?;
-            if got.as_slice() != wanted(place) {
+            let (got, _) = handed_in_pieces(alloc, CHALLENGE, &changed, 60)?;
+            if got.as_slice() != expected_octets(place) {
                 return Ok(false);
             }
         }
@@ -123,7 +123,7 @@ const ORDERS: &[(&[usize], usize)] = &[
 ];
 
 /// What is handed on of records in an order, behind the greeting.
-fn ordered(alloc: Global, order: &[usize]) -> Result<Vec<u8>, EntranceFault> {
+fn handed_in_order(alloc: Global, order: &[usize]) -> Result<Vec<u8>, EntranceFault> {
     let mut octets = Vec::from_slice(alloc, &greeting(alloc, 2)?)?;
     let own = records(alloc, 2, CHALLENGE, REQUESTS)?;
     let old = records(alloc, 2, NONCE, REQUESTS)?;
@@ -138,13 +138,13 @@ fn ordered(alloc: Global, order: &[usize]) -> Result<Vec<u8>, EntranceFault> {
         let one = sets.get(*place / 3).and_then(|set| set.get(*place % 3));
         octets.extend_from_slice(one.unwrap_or(&back))?;
     }
-    Ok(handed(alloc, CHALLENGE, &octets, 99)?.0)
+    Ok(handed_in_pieces(alloc, CHALLENGE, &octets, 99)?.0)
 }
 
 #[test]
 fn hands_on_the_session_in_its_order_alone(rt: HostRuntime) -> Result<(), Fail> {
     for (order, count) in ORDERS {
-        let got = match ordered(rt.alloc(), order) {
+        let got = match handed_in_order(rt.alloc(), order) {
             Ok(got) => got,
             Err(_) => Vec::from_slice(rt.alloc(), b"fault")?,
         };
@@ -205,7 +205,7 @@ fn hands_on_what_the_role_may_ask(rt: HostRuntime) -> Result<(), Fail> {
     let alloc = rt.alloc();
     for (key, content, wanted) in CONTENTS {
         let got = match session(alloc, *key, &[content]) {
-            Ok(octets) => handed(alloc, CHALLENGE, &octets, 30)?.0,
+            Ok(octets) => handed_in_pieces(alloc, CHALLENGE, &octets, 30)?.0,
             Err(_) => Vec::from_slice(alloc, b"fault")?,
         };
         assert_eq!(rt; got.as_slice(), *wanted, "{key} {content:?}");
@@ -215,7 +215,7 @@ fn hands_on_what_the_role_may_ask(rt: HostRuntime) -> Result<(), Fail> {
 
 /// What a server refuses a session for whose octets begin so.
 fn fault_of(alloc: Global, octets: &[u8]) -> Result<Option<EntranceFault>, EntranceFault> {
-    Ok(handed(alloc, CHALLENGE, octets, 500)?.1)
+    Ok(handed_in_pieces(alloc, CHALLENGE, octets, 500)?.1)
 }
 
 #[test]

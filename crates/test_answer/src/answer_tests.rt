@@ -5,7 +5,7 @@ use std::alloc::{AllocError, Global};
 use std::test::Fail;
 use ts_answer::{Answers, is_deliverable};
 use ts_octets::Octets;
-use ts_question::{Flags, OctetStrings, Oids, Question, Reply, Terms};
+use ts_question::{Flags, MAX_POSITION, OctetStrings, Oids, Question, Reply, Terms};
 use ts_sig::DigestCheck;
 use ts_store::{Command, Outcome};
 use ts_synod::{Body, Message};
@@ -75,18 +75,20 @@ fn store(alloc: Global) -> Result<Option<Answers<DigestCheck>>, AllocError> {
 
 /// The tag of the reply after the first k commands.
 fn tag(answers: &mut Answers<DigestCheck>, k: u32, question: &Question) -> Result<u8, AllocError> {
-    Ok(match answers.answer(k, question)?.reply() {
-        Reply::Valid { .. } => 1,
-        Reply::Invalid { .. } => 2,
-        Reply::Found { .. } => 3,
-        Reply::NoPath => 4,
-        Reply::SearchLimit => 5,
-        Reply::NotYet { .. } => 6,
-        Reply::Malformed { .. } => 7,
-        Reply::NoAnchor => 8,
-        Reply::Limit => 9,
-        Reply::Page { .. } => 10,
-    })
+    Ok(
+        match answers.answer(k.min(MAX_POSITION), question)?.reply() {
+            Reply::Valid { .. } => 1,
+            Reply::Invalid { .. } => 2,
+            Reply::Found { .. } => 3,
+            Reply::NoPath => 4,
+            Reply::SearchLimit => 5,
+            Reply::NotYet { .. } => 6,
+            Reply::Malformed { .. } => 7,
+            Reply::NoAnchor => 8,
+            Reply::Limit => 9,
+            Reply::Page { .. } => 10,
+        },
+    )
 }
 
 /// The tags of the replies after so many commands each, and 0 for each where there is no store.
@@ -101,7 +103,7 @@ fn tags(alloc: Global, ks: [u32; 4], question: &Question) -> Result<[u8; 4], All
 }
 
 /// The tags for a chain of this certificate, and 0 for each where there is no question.
-fn judged(alloc: Global, octets: &[u8], ks: [u32; 4]) -> Result<[u8; 4], AllocError> {
+fn chain_tags(alloc: Global, octets: &[u8], ks: [u32; 4]) -> Result<[u8; 4], AllocError> {
     match chain(alloc, octets)? {
         Some(question) => tags(alloc, ks, &question),
         None => Ok([0; 4]),
@@ -110,15 +112,15 @@ fn judged(alloc: Global, octets: &[u8], ks: [u32; 4]) -> Result<[u8; 4], AllocEr
 
 #[test]
 fn a_chain_is_judged_at_every_position(rt: HostRuntime) -> Result<(), Fail> {
-    let found = judged(rt.alloc(), L, [0, 1, 2, 3])?;
+    let found = chain_tags(rt.alloc(), L, [0, 1, 2, 3])?;
     assert_eq!(rt; found, [8, 1, 8, 6]);
-    let found = judged(rt.alloc(), &L[..L.len() - 1], [1, 1, 1, 1])?;
+    let found = chain_tags(rt.alloc(), &L[..L.len() - 1], [1, 1, 1, 1])?;
     assert_eq!(rt; found, [7, 7, 7, 7]);
     Ok(())
 }
 
 /// What became of the ids 2 and 3 in the store, and how many commands it took.
-fn settled(alloc: Global) -> Result<Option<(Option<(u32, Outcome)>, bool, u32)>, AllocError> {
+fn fate_of_ids(alloc: Global) -> Result<Option<(Option<(u32, Outcome)>, bool, u32)>, AllocError> {
     let Some(answers) = store(alloc)? else {
         return Ok(None);
     };
@@ -133,14 +135,14 @@ fn settled(alloc: Global) -> Result<Option<(Option<(u32, Outcome)>, bool, u32)>,
 
 #[test]
 fn an_id_settles_at_its_first_position(rt: HostRuntime) -> Result<(), Fail> {
-    let found = settled(rt.alloc())?;
+    let found = fate_of_ids(rt.alloc())?;
     assert_eq!(rt; found, Some((Some((2, Outcome::Applied)), false, 2)));
     Ok(())
 }
 
 /// The tags for a search among this certificate, which is the leaf, and 0 for each where there is
 /// no question.
-fn searched(alloc: Global, octets: &[u8], ks: [u32; 4]) -> Result<[u8; 4], AllocError> {
+fn search_tags(alloc: Global, octets: &[u8], ks: [u32; 4]) -> Result<[u8; 4], AllocError> {
     let mut certificates = Vec::new(alloc);
     certificates.push(octets.to_vec(alloc)?)?;
     match Question::search(terms(alloc), certificates) {
@@ -151,7 +153,7 @@ fn searched(alloc: Global, octets: &[u8], ks: [u32; 4]) -> Result<[u8; 4], Alloc
 
 #[test]
 fn a_search_finds_the_leaf(rt: HostRuntime) -> Result<(), Fail> {
-    let found = searched(rt.alloc(), L, [1, 1, 2, 2])?;
+    let found = search_tags(rt.alloc(), L, [1, 1, 2, 2])?;
     assert_eq!(rt; found, [3, 3, 4, 4]);
     Ok(())
 }
@@ -170,7 +172,7 @@ fn a_message_out_of_range_is_not_deliverable(rt: HostRuntime) {
 }
 
 /// An id: fourteen octets of zero, and a number.
-fn numbered(number: u16) -> [u8; 16] {
+fn id_of(number: u16) -> [u8; 16] {
     let [high, low] = number.to_be_bytes();
     [0, 0, 0, 0, 0, 0, 0, 0, 0, 0, 0, 0, 0, 0, high, low]
 }
@@ -179,7 +181,7 @@ fn numbered(number: u16) -> [u8; 16] {
 fn alternating(alloc: Global, count: u16) -> Result<Option<Answers<DigestCheck>>, AllocError> {
     let mut answers = Answers::new(alloc, DigestCheck);
     for number in 0..count {
-        let id = numbered(number);
+        let id = id_of(number);
         let command = if number % 2 == 0 {
             match Command::add_anchor(id, Octets::copy_of(alloc, R)?) {
                 Ok(command) => command,
@@ -236,7 +238,7 @@ fn octets_at(
     k: u32,
     question: &Question,
 ) -> Result<Vec<u8>, AllocError> {
-    answers.answer(k, question)?.octets(alloc)
+    answers.answer(k.min(MAX_POSITION), question)?.octets(alloc)
 }
 
 /// Takes the anchor as the third command. The tags of the reply after three commands, before it and

@@ -3,7 +3,7 @@
 //! tables of the formats, apart from this code, and OpenSSL reads the certificates and the list as
 //! they are described here; what a chain is refused for was taken from the text of RFC 5280.
 
-use crate::page_tests::{answered, store};
+use crate::page_tests::{answer_octets, store};
 use std::alloc::{AllocError, Global};
 use std::test::Fail;
 
@@ -464,7 +464,7 @@ fn each_reply_is_whole(rt: HostRuntime) -> Result<(), Fail> {
     let mut answers = store(rt.alloc(), COMMANDS)?;
     for (before, letters, expected) in REPLIES {
         let octets = question(rt.alloc(), before, letters)?;
-        let answer = answered(rt.alloc(), &mut answers, &octets)?;
+        let answer = answer_octets(rt.alloc(), &mut answers, &octets)?;
         assert!(rt; answer.as_slice() == *expected, "{letters}");
     }
     Ok(())
@@ -475,7 +475,7 @@ fn the_first_part_that_is_malformed_is_named(rt: HostRuntime) -> Result<(), Fail
     let mut answers = store(rt.alloc(), COMMANDS)?;
     for (before, letters, expected) in MALFORMED {
         let octets = question(rt.alloc(), before, letters)?;
-        let answer = answered(rt.alloc(), &mut answers, &octets)?;
+        let answer = answer_octets(rt.alloc(), &mut answers, &octets)?;
         assert!(rt; answer.as_slice() == *expected, "{letters}");
     }
     Ok(())

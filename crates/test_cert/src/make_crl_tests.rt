@@ -72,7 +72,7 @@ fn plain() -> CrlText<'static> {
 }
 
 /// The description of SCOPED.
-fn scoped() -> CrlText<'static> {
+fn scoped_text() -> CrlText<'static> {
     CrlText {
         issuer: &[CN_X],
         entries: &[EntryText {
@@ -98,7 +98,7 @@ fn makes_lists(rt: HostRuntime) {
     };
     assert!(rt; is_made(rt.alloc(), &plain(), PLAIN) == Ok(true));
     assert!(rt; is_made(rt.alloc(), &numbered, NUMBERED) == Ok(true));
-    assert!(rt; is_made(rt.alloc(), &scoped(), SCOPED) == Ok(true));
+    assert!(rt; is_made(rt.alloc(), &scoped_text(), SCOPED) == Ok(true));
 }
 
 /// The object identifier of an element.
@@ -164,7 +164,7 @@ fn makes_deltas(rt: HostRuntime) {
 }
 
 /// The rule that is broken, and where, of a description.
-fn refused(alloc: Global, text: &CrlText<'_>) -> Option<CertFault> {
+fn refusal(alloc: Global, text: &CrlText<'_>) -> Option<CertFault> {
     match make_crl(alloc, text) {
         Err(MakeFault::Unreadable(fault)) => Some(fault),
         _ => None,
@@ -190,7 +190,7 @@ fn makes_no_other_times(rt: HostRuntime) {
         };
         let kind = CertRule::Der(DerFault::TimeForm);
         assert!(rt;
-            refused(rt.alloc(), &text) == Some(CertFault { kind, at }),
+            refusal(rt.alloc(), &text) == Some(CertFault { kind, at }),
             "{this} {next}"
         );
     }
@@ -221,7 +221,7 @@ fn are_refused(alloc: Global) -> Result<bool, Fault> {
             critical,
             ..plain()
         };
-        if refused(alloc, &text) != Some(CertFault { kind, at }) {
+        if refusal(alloc, &text) != Some(CertFault { kind, at }) {
             return Ok(false);
         }
     }

@@ -25,7 +25,7 @@ const CN_R: RdnText<'static> = RdnText {
 };
 
 /// What is made of CN=R with these parts.
-fn made(alloc: Global, parts: &[ExtensionText<'_>]) -> Result<Vec<u8>, MakeFault> {
+fn octets_of(alloc: Global, parts: &[ExtensionText<'_>]) -> Result<Vec<u8>, MakeFault> {
     let text = CertText {
         serial: 1,
         issuer: &[CN_R],
@@ -41,7 +41,7 @@ fn made(alloc: Global, parts: &[ExtensionText<'_>]) -> Result<Vec<u8>, MakeFault
 
 /// Whether these octets are made of these parts.
 fn is_made(alloc: Global, parts: &[ExtensionText<'_>], octets: &[u8]) -> Result<bool, MakeFault> {
-    Ok(made(alloc, parts)?.as_slice() == octets)
+    Ok(octets_of(alloc, parts)?.as_slice() == octets)
 }
 
 #[test]
@@ -98,8 +98,8 @@ fn makes_all_extensions(rt: HostRuntime) {
 }
 
 /// The rule that is broken, and where, of these parts.
-fn refused(alloc: Global, parts: &[ExtensionText<'_>]) -> Option<CertFault> {
-    match made(alloc, parts) {
+fn refusal(alloc: Global, parts: &[ExtensionText<'_>]) -> Option<CertFault> {
+    match octets_of(alloc, parts) {
         Err(MakeFault::Unreadable(fault)) => Some(fault),
         _ => None,
     }
@@ -140,7 +140,7 @@ fn are_refused(alloc: Global) -> Result<bool, Fault> {
         ),
     ];
     for (parts, kind, at) in rows {
-        if refused(alloc, parts) != Some(CertFault { kind, at }) {
+        if refusal(alloc, parts) != Some(CertFault { kind, at }) {
             return Ok(false);
         }
     }
@@ -164,7 +164,7 @@ const USAGES: [(u32, Result<usize, MakeFault>); 6] = [
 
 /// The number of octets with this bit.
 fn made_length(alloc: Global, bit: u32) -> Result<usize, MakeFault> {
-    Ok(made(alloc, &[ExtensionText::KeyUsage(bit)])?.len())
+    Ok(octets_of(alloc, &[ExtensionText::KeyUsage(bit)])?.len())
 }
 
 #[test]

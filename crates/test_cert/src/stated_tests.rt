@@ -37,7 +37,7 @@ fn first_point(points: DistributionPoints<'_>) -> Option<&[u8]> {
 }
 
 /// The octets that an extension says first.
-fn unlocated(cert: Cert<'_>, known: Known) -> Option<&[u8]> {
+fn extension_octets(cert: Cert<'_>, known: Known) -> Option<&[u8]> {
     match known {
         Known::AuthorityKeyIdentifier => {
             let serial = cert
@@ -82,7 +82,7 @@ const SAID: [(Known, &[u8]); 10] = [
 fn reads_the_octets_of_each_extension(rt: HostRuntime) -> Result<(), Fail> {
     let cert = Cert::read(ALL)?;
     for &(known, wanted) in &SAID {
-        assert!(rt; unlocated(cert, known) == Some(wanted), "{known:?}");
+        assert!(rt; extension_octets(cert, known) == Some(wanted), "{known:?}");
     }
     let extension = cert.extensions().and_then(|all| all.iter().next());
     assert!(rt; extension.map(|first| first.id.content) == Some(b"\x55\x1d\x0e".as_slice()));

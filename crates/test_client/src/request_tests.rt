@@ -9,11 +9,12 @@ ghost use Rattle.ts_store.specs.Octets.{octets_of};
 use std::alloc::{AllocError, Global};
 use std::test::Fail;
 use ts_answer::Answers;
-use ts_client::{Ended, Upkeep, ask, submit, tend};
+use ts_client::{Ending, Upkeep, ask, submit, tend};
 use ts_disk::MemDisk;
-use ts_explain::explained;
+use ts_explain::explanation;
 use ts_node::Node;
-use ts_question::{Question, Reason, Reply};
+use ts_question::{Question, Reply};
+use ts_reason::Reason;
 use ts_record::Record;
 use ts_serve::{Server, ServerPeer, carry};
 use ts_sig::DigestCheck;
@@ -69,13 +70,13 @@ fn a_command_is_submitted_and_a_question_asked(rt: HostRuntime) -> Result<(), Fa
     let said = submit(alloc, &mut peers[0], noop())?;
     assert_eq!(rt;
         (said.line.as_str(), said.ended),
-        ("submit started 1 17\n", Ended::Well)
+        ("submit started 1 17\n", Ending::Well)
     );
     assert_eq!(rt; carry(alloc, &mut peers, 4)?, 4);
     let said = submit(alloc, &mut peers[0], noop())?;
     assert_eq!(rt;
         (said.line.as_str(), said.ended),
-        ("submit settled 1 applied\n", Ended::Well)
+        ("submit settled 1 applied\n", Ending::Well)
     );
     let said = submit(alloc, &mut peers[0], withdrawal())?;
     assert_eq!(rt; said.line.as_str(), "submit started 2 33\n");
@@ -83,7 +84,7 @@ fn a_command_is_submitted_and_a_question_asked(rt: HostRuntime) -> Result<(), Fa
     let said = submit(alloc, &mut peers[0], withdrawal())?;
     assert_eq!(rt;
         (said.line.as_str(), said.ended),
-        ("submit settled 2 refused NoAnchor\n", Ended::Refused)
+        ("submit settled 2 refused NoAnchor\n", Ending::Refused)
     );
     let Some(question) = Question::read(alloc, QUESTION)? else {
         panic!(&rt; "no question");
@@ -101,14 +102,14 @@ fn replies_are_explained(rt: HostRuntime) -> Result<(), Fail> {
     let Some(question) = Question::read(alloc, QUESTION)? else {
         panic!(&rt; "no question");
     };
-    let text = explained(alloc, &question, &Reply::NotYet { prefix: 3 })?;
+    let text = explanation(alloc, &question, &Reply::NotYet { prefix: 3 })?;
     let wanted = b"the node knows 3 commands, fewer than the question is about\n";
     assert!(rt; text.as_slice() == wanted.as_slice());
     let expired = Reply::Invalid {
         position: 1,
         reason: Reason::Expired,
     };
-    let text = explained(alloc, &question, &expired)?;
+    let text = explanation(alloc, &question, &expired)?;
     assert!(rt; text.as_slice() == b"no certificate has this place\n".as_slice());
     Ok(())
 }

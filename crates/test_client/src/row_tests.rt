@@ -4,7 +4,7 @@ use std::test::Fail;
 use ts_client::step_line;
 use ts_render::{row_fields, row_text, write_row};
 use ts_show::Line;
-use ts_sync::{Kind, Step};
+use ts_sync::{PlanStep, StepKind};
 
 /// The octets of a row, its position, its line, and its JSON object.
 const ROWS: &[(&[u8], u32, &str, &str)] = &[
@@ -87,17 +87,22 @@ fn other_octets_are_no_row(rt: HostRuntime) {
 }
 
 /// What a step does, the file of what it brings, and how its line begins and ends.
-const STEPS: &[(Kind, Option<&str>, &str, &str)] = &[
-    (Kind::Add, Some("roots.pem"), "add abab", "abab roots.pem"),
-    (Kind::Load, Some("a\nb"), "load abab", "abab a\\x0ab"),
-    (Kind::Drop, None, "drop abab", "abab"),
-    (Kind::Withdraw, None, "withdraw abab", "abab"),
+const STEPS: &[(StepKind, Option<&str>, &str, &str)] = &[
+    (
+        StepKind::Add,
+        Some("roots.pem"),
+        "add abab",
+        "abab roots.pem",
+    ),
+    (StepKind::Load, Some("a\nb"), "load abab", "abab a\\x0ab"),
+    (StepKind::Drop, None, "drop abab", "abab"),
+    (StepKind::Withdraw, None, "withdraw abab", "abab"),
 ];
 
 #[test]
 fn steps_are_printed(rt: HostRuntime) -> Result<(), Fail> {
     for (kind, file, begin, end) in STEPS {
-        let step = Step {
+        let step = PlanStep {
             kind: *kind,
             id: [0xab; 32],
         };

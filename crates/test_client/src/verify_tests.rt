@@ -4,7 +4,7 @@ use std::alloc::Global;
 use std::fs;
 use std::test::Fail;
 use ts_cli::{Task, task_of};
-use ts_client::{Fault, verify_files};
+use ts_client::{TaskFault, verify_files};
 
 /// A certificate of P-256 under its own key, which openssl made: CN=p256.
 const PEM: &str =
@@ -17,7 +17,7 @@ fn verdict(
     rt: &HostRuntime,
     alloc: Global,
     line: &str,
-) -> Result<Option<Result<bool, Fault>>, Fail> {
+) -> Result<Option<Result<bool, TaskFault>>, Fail> {
     let mut words: Vec<&str> = Vec::new(alloc);
     for word in line.split_ascii_whitespace() {
         words.push(word)?;
@@ -29,7 +29,7 @@ fn verdict(
 }
 
 /// Words after `trustd verify`, and what they come to.
-const LINES: &[(&str, Result<bool, Fault>)] = &[
+const LINES: &[(&str, Result<bool, TaskFault>)] = &[
     (
         "--anchor ts_client_verify.pem --at 20270101000000Z ts_client_verify.pem",
         Ok(true),
@@ -52,15 +52,15 @@ const LINES: &[(&str, Result<bool, Fault>)] = &[
     ),
     (
         "--anchor ts_client_verify.pem --crl ts_client_verify.pem ts_client_verify.pem",
-        Err(Fault::Field),
+        Err(TaskFault::Field),
     ),
     (
         "--anchor ts_client_verify.pem --host a..b ts_client_verify.pem",
-        Err(Fault::Field),
+        Err(TaskFault::Field),
     ),
     (
         "--anchor ts_client_none.pem ts_client_verify.pem",
-        Err(Fault::File),
+        Err(TaskFault::File),
     ),
 ];
 

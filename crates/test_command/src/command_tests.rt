@@ -234,7 +234,7 @@ const LINES: &[(&str, &str)] = &[
 ];
 
 /// The task that a line of words asks for, or what refuses it.
-fn shown(alloc: Global, line: &str) -> Result<String, AllocError> {
+fn task_text(alloc: Global, line: &str) -> Result<String, AllocError> {
     let mut words: Vec<&str> = Vec::new(alloc);
     words.push("trustd")?;
     for word in line.split_ascii_whitespace() {
@@ -251,7 +251,7 @@ fn shown(alloc: Global, line: &str) -> Result<String, AllocError> {
 #[test]
 fn lines_have_their_tasks(rt: HostRuntime) -> Result<(), Fail> {
     for (line, wanted) in LINES {
-        assert_eq!(rt; shown(rt.alloc(), line)?.as_str(), *wanted, "{line}");
+        assert_eq!(rt; task_text(rt.alloc(), line)?.as_str(), *wanted, "{line}");
     }
     Ok(())
 }

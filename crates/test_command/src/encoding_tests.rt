@@ -105,7 +105,7 @@ fn lines_have_their_encodings(rt: HostRuntime) -> Result<(), Fail> {
 #[test]
 fn a_long_file_is_refused(rt: HostRuntime) -> Result<(), Fail> {
     let alloc = rt.alloc();
-    let change = ts_cli::Change::Add {
+    let change = ts_cli::CommandAction::Add {
         file: String::from_str(alloc, "f")?,
     };
     let file = vec![in alloc; 0u8; 65_537]?;

@@ -1,5 +1,5 @@
 //! Tests of the command line, of commands and questions that it makes, and of what is shown of
-//! octets, over the public calls of their crates.
+//! octets, answers, plans and listings, over the public calls of their crates.
 //!
 //! In a crate of their own they are proved alone: a crate with tests is proved once more with them.
 #![tactic(auto)]
@@ -8,5 +8,7 @@
 mod command_tests;
 #[cfg(test)]
 mod encoding_tests;
+#[cfg(test)]
+mod field_tests;
 #[cfg(test)]
 mod show_tests;

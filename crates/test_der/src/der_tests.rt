@@ -17,7 +17,7 @@ const OID_FORM: Place = (DerFault::OidForm, 0);
 const TEXT_FORM: Place = (DerFault::TextForm, 0);
 
 /// The value that a reading gives, or the fault and its place.
-fn placed<T>(read: Result<T, Fault>) -> Result<T, Place> {
+fn value_or_place<T>(read: Result<T, Fault>) -> Result<T, Place> {
     match read {
         Ok(value) => Ok(value),
         Err(Fault { kind, at }) => Err((kind, at)),
@@ -26,7 +26,7 @@ fn placed<T>(read: Result<T, Fault>) -> Result<T, Place> {
 
 /// The fault of a reading that is refused, and its place.
 fn refusal<T: Drop>(read: Result<T, Fault>) -> Option<Place> {
-    placed(read).err()
+    value_or_place(read).err()
 }
 
 /// The first element of an input, whatever its tag.
@@ -158,7 +158,7 @@ const BOOLEANS: [(&[u8], Result<bool, Place>); 5] = [
 #[test]
 fn booleans(rt: HostRuntime) {
     for &(octets, value) in &BOOLEANS {
-        assert!(rt; placed(boolean(octets)) == value, "{octets:?}");
+        assert!(rt; value_or_place(boolean(octets)) == value, "{octets:?}");
     }
 }
 
@@ -225,7 +225,7 @@ const SMALL: [(&[u8], Result<u32, Place>); 8] = [
 #[test]
 fn small_integers(rt: HostRuntime) {
     for &(octets, value) in &SMALL {
-        assert!(rt; placed(small(octets)) == value, "{octets:?}");
+        assert!(rt; value_or_place(small(octets)) == value, "{octets:?}");
     }
 }
 
@@ -383,7 +383,7 @@ const TEXTS: [(&[u8], Result<&str, Place>, Result<&[u8], Place>); 4] = [
 #[test]
 fn texts(rt: HostRuntime) {
     for &(octets, text, characters) in &TEXTS {
-        let read = (placed(utf8(octets)), placed(ascii(octets)));
+        let read = (value_or_place(utf8(octets)), value_or_place(ascii(octets)));
         assert!(rt; read == (text, characters), "{octets:?}");
     }
 }

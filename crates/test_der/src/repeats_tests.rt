@@ -60,7 +60,7 @@ const LISTS: [(&[u8], Option<&[u8]>); 16] = [
 ];
 
 /// The content of the first object identifier of a list that occurs twice.
-fn repeated(octets: &[u8]) -> Result<Option<&[u8]>, Fault> {
+fn first_repeat(octets: &[u8]) -> Result<Option<&[u8]>, Fault> {
     let found: Option<OidRef> = first_repeated(Reader::new(octets).next()?);
     Ok(found.map(|oid| oid.content))
 }
@@ -68,7 +68,7 @@ fn repeated(octets: &[u8]) -> Result<Option<&[u8]>, Fault> {
 #[test]
 fn the_first_by_place_is_found(rt: HostRuntime) -> Result<(), Fail> {
     for (octets, first) in LISTS {
-        assert_eq!(rt; repeated(octets)?, first);
+        assert_eq!(rt; first_repeat(octets)?, first);
     }
     Ok(())
 }
@@ -91,7 +91,7 @@ fn repeats_are_found_behind_a_full_table(rt: HostRuntime) -> Result<(), Fail> {
         (b"\x06\x01\x00\x06\x01\x7f", Some(b"\x00".as_slice())),
         (b"\x06\x04\x2a\x03\x04\x05", None),
     ] {
-        assert_eq!(rt; repeated(&short(rt.alloc(), more)?)?, first);
+        assert_eq!(rt; first_repeat(&short(rt.alloc(), more)?)?, first);
     }
     Ok(())
 }
@@ -129,7 +129,10 @@ fn repeats_are_found_in_long_lists(rt: HostRuntime) -> Result<(), Fail> {
                 Some(b"\x7f\x7f".as_slice()),
             ),
         ] {
-            assert_eq!(rt; repeated(&many(rt.alloc(), header, highs, more)?)?, first);
+            assert_eq!(rt;
+                first_repeat(&many(rt.alloc(), header, highs, more)?)?,
+                first
+            );
         }
     }
     Ok(())

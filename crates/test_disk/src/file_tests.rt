@@ -1,8 +1,10 @@
 //! A file as a disk, on real files of the test.
 
-use std::alloc::{AllocError, Global};
-use std::fs::{Metadata, OpenFile};
+use std::alloc::{AllocError, Allocator, Global};
+use std::fs::{Metadata, OpenFile, OpenOptions};
 use std::io::{ErrorKind, Read, Seek, SeekFrom, Write};
+use std::path::{Path, PathBuf};
+use std::rt::Files;
 use std::test::Fail;
 use std::{fs, io};
 use ts_disk::{Disk, DiskFault};
@@ -164,4 +166,86 @@ fn a_disk_that_failed_fails_until_it_is_opened_again(rt: HostRuntime) -> Result<
         assert_eq!(rt; disk.failures(), 4);
     }
     Ok(())
+}
+
+/// Files of ten digits, of which the one at this path alone can be synced.
+#[derive(Drop)]
+struct Shelf {
+    alloc: Global,
+    synced: &'static str,
+}
+
+impl Files for Shelf {
+    type File = Patchy;
+
+    type Dir = Patchy;
+
+    fn open_file(&self, _how: &OpenOptions, path: &str) -> io::Result<Patchy> {
+        let wanted: &'static [u8] = if path == self.synced {
+            b"0123456789"
+        } else {
+            b"other"
+        };
+        Ok(with_ten_octets(self.alloc, 100, wanted)?)
+    }
+
+    fn open_dir(&self, _path: &str) -> io::Result<Patchy> {
+        Err(ErrorKind::Unsupported.into())
+    }
+
+    fn metadata(&self, _path: &str) -> io::Result<Metadata> {
+        Err(ErrorKind::Unsupported.into())
+    }
+
+    fn symlink_metadata(&self, _path: &str) -> io::Result<Metadata> {
+        Err(ErrorKind::Unsupported.into())
+    }
+
+    fn copy(&self, _from: &str, _to: &str) -> io::Result<u64> {
+        Err(ErrorKind::Unsupported.into())
+    }
+
+    fn rename(&self, _from: &str, _to: &str) -> io::Result<()> {
+        Err(ErrorKind::Unsupported.into())
+    }
+
+    fn remove_file(&self, _path: &str) -> io::Result<()> {
+        Err(ErrorKind::Unsupported.into())
+    }
+
+    fn create_dir(&self, _path: &str) -> io::Result<()> {
+        Err(ErrorKind::Unsupported.into())
+    }
+
+    fn remove_dir(&self, _path: &str) -> io::Result<()> {
+        Err(ErrorKind::Unsupported.into())
+    }
+
+    fn remove_dir_all<B: Allocator>(&self, _alloc: B, _path: &str) -> io::Result<()> {
+        Err(ErrorKind::Unsupported.into())
+    }
+
+    /// A file of the folder `links` is really in the folder `files`.
+    fn canonicalize<B: Allocator>(&self, alloc: B, path: &str) -> io::Result<PathBuf<B>> {
+        if path == "links/record" {
+            Ok(Path::new("files/record").to_path_buf(alloc)?)
+        } else {
+            Err(ErrorKind::Unsupported.into())
+        }
+    }
+}
+
+#[test]
+fn a_file_is_made_only_where_its_folder_is_synced(rt: HostRuntime) {
+    let alloc = rt.alloc();
+    for (path, folder) in [
+        ("folder/record", "folder"),
+        ("record", "."),
+        ("links/record", "files"),
+    ] {
+        for (synced, is_made) in [(folder, true), ("elsewhere", false), (path, false)] {
+            let files = Shelf { alloc, synced };
+            assert_eq!(rt; create(&files, alloc, path).is_ok(), is_made);
+        }
+    }
 }

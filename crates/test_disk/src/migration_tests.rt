@@ -4,7 +4,7 @@ use crate::record_tests::{Word, are_three};
 use std::alloc::{AllocError, Global};
 use std::test::Fail;
 use ts_disk::{DiskCall, MemDisk, Torn};
-use ts_record::{Fault, Record, Refused};
+use ts_record::{Record, RecordFault, RefusedRecord};
 use ts_synod::Fact;
 
 /// A record of version 1: the header of node 1 of 3, an entry with the fact that round 1 was used,
@@ -21,10 +21,10 @@ const NEW: [u8; 36] = [
 
 /// What migrating a record of these octets onto two empty disks answers, and the two disks after
 /// it.
-fn migrated(
+fn migration_of(
     alloc: Global,
     octets: &[u8],
-) -> Result<(Result<u32, Fault>, MemDisk, MemDisk), AllocError> {
+) -> Result<(Result<u32, RecordFault>, MemDisk, MemDisk), AllocError> {
     let mut old = MemDisk::new(alloc, octets.to_vec(alloc)?)?;
     let mut a = MemDisk::new(alloc, Vec::new(alloc))?;
     let mut b = MemDisk::new(alloc, Vec::new(alloc))?;
@@ -34,7 +34,7 @@ fn migrated(
 
 #[test]
 fn an_old_record_becomes_a_new_one(rt: HostRuntime) -> Result<(), Fail> {
-    let (answer, a, b) = migrated(rt.alloc(), &OLD)?;
+    let (answer, a, b) = migration_of(rt.alloc(), &OLD)?;
     assert_eq!(rt; answer, Ok(1));
     assert_eq!(rt; a.octets(), NEW.as_slice());
     assert_eq!(rt; b.octets().len(), 26);
@@ -51,15 +51,15 @@ fn an_old_record_becomes_a_new_one(rt: HostRuntime) -> Result<(), Fail> {
 #[test]
 fn what_is_no_old_record_has_its_fault(rt: HostRuntime) -> Result<(), Fail> {
     let rows = [
-        (&OLD[..0], Fault::NotFormatted),
-        (&NEW[..], Fault::NotFormatted),
-        (&OLD[..16], Fault::Damaged(16)),
-        (&OLD[..20], Fault::Damaged(17)),
-        (&OLD[..25], Fault::Damaged(21)),
-        (&OLD[..26], Fault::Damaged(26)),
+        (&OLD[..0], RecordFault::NotFormatted),
+        (&NEW[..], RecordFault::NotFormatted),
+        (&OLD[..16], RecordFault::Damaged(16)),
+        (&OLD[..20], RecordFault::Damaged(17)),
+        (&OLD[..25], RecordFault::Damaged(21)),
+        (&OLD[..26], RecordFault::Damaged(26)),
     ];
     for (octets, fault) in rows {
-        let (answer, a, _) = migrated(rt.alloc(), octets)?;
+        let (answer, a, _) = migration_of(rt.alloc(), octets)?;
         assert_eq!(rt; (answer, a.octets().len()), (Err(fault), 0));
     }
     Ok(())
@@ -95,20 +95,20 @@ fn disk(alloc: Global, number: u8, stop: Stop) -> Result<MemDisk, AllocError> {
 
 /// What a migration answers, and the three disks.
 #[derive(Drop)]
-struct Ended {
-    answer: Result<u32, Fault>,
+struct MigrationEnd {
+    answer: Result<u32, RecordFault>,
     old: MemDisk,
     a: MemDisk,
     b: MemDisk,
 }
 
 /// What migrating the record answers where a disk stops so, and the three disks after it.
-fn stopped(alloc: Global, stop: Stop) -> Result<Ended, AllocError> {
+fn migration_with_stop(alloc: Global, stop: Stop) -> Result<MigrationEnd, AllocError> {
     let mut old = disk(alloc, 0, stop)?;
     let mut a = disk(alloc, 1, stop)?;
     let mut b = disk(alloc, 2, stop)?;
     let answer = Record::<MemDisk, Word>::migrate(alloc, &mut old, &mut a, &mut b);
-    Ok(Ended { answer, old, a, b })
+    Ok(MigrationEnd { answer, old, a, b })
 }
 
 /// Whether two disks open to all four facts, for true, or are no record. `None` for anything else.
@@ -119,8 +119,8 @@ fn opens(alloc: Global, a: MemDisk, b: MemDisk) -> Option<bool> {
             _ => None,
         },
         Err(
-            Refused {
-                fault: Fault::NotFormatted | Fault::Damaged(_),
+            RefusedRecord {
+                fault: RecordFault::NotFormatted | RecordFault::Damaged(_),
                 a: _,
                 b: _,
             },
@@ -135,8 +135,8 @@ const TORN: [Torn; 4] = [Torn::Old, Torn::New, Torn::Byte(0), Torn::Byte(0xff)];
 /// facts where the migration ended well, and else to all of them or to no record. The second
 /// answer: whether it stopped.
 fn is_kept(alloc: Global, stop: Stop) -> Result<(bool, bool), AllocError> {
-    let Ended { answer, old, a, b } = stopped(alloc, stop)?;
-    let has_stopped = answer == Err(Fault::DiskFailed);
+    let MigrationEnd { answer, old, a, b } = migration_with_stop(alloc, stop)?;
+    let has_stopped = answer == Err(RecordFault::DiskFailed);
     let mut is_good = has_stopped || answer == Ok(4);
     is_good &= old.octets() == FOUR_FACTS.as_slice();
     is_good &= matches!(old.calls(), [] | [DiskCall::Read]);
@@ -175,12 +175,12 @@ fn calls(alloc: Global) -> Result<[usize; 3], AllocError> {
         before: 0,
         is_alone: false,
     };
-    let Ended {
+    let MigrationEnd {
         answer: _,
         old,
         a,
         b,
-    } = stopped(alloc, none)?;
+    } = migration_with_stop(alloc, none)?;
     Ok([old.calls().len(), a.calls().len(), b.calls().len()])
 }
 

@@ -4,7 +4,7 @@ use std::alloc::{AllocError, Global};
 use std::marker::Model;
 use std::test::Fail;
 use ts_disk::{DiskCall, MemDisk, Torn};
-use ts_record::{Fault, Record, Refused};
+use ts_record::{Record, RecordFault, RefusedRecord};
 use ts_synod::{Codec, Command, Fact};
 
 /// A command that is any octets.
@@ -62,12 +62,12 @@ fn empty(alloc: Global) -> Result<MemDisk, AllocError> {
 }
 
 /// The fault with which opening disks of these octets is refused; none where they open.
-fn fault_of(alloc: Global, a: &[u8], b: &[u8]) -> Result<Option<Fault>, AllocError> {
+fn fault_of(alloc: Global, a: &[u8], b: &[u8]) -> Result<Option<RecordFault>, AllocError> {
     let a = MemDisk::new(alloc, a.to_vec(alloc)?)?;
     let b = MemDisk::new(alloc, b.to_vec(alloc)?)?;
     Ok(match Record::<MemDisk, Word>::open(alloc, a, b) {
         Ok(_) => None,
-        Err(Refused { fault, a: _, b: _ }) => Some(fault),
+        Err(RefusedRecord { fault, a: _, b: _ }) => Some(fault),
     })
 }
 
@@ -82,7 +82,7 @@ fn a_format_writes_a_head_on_each_disk(rt: HostRuntime) -> Result<(), Fail> {
 }
 
 /// The disks of a record to which no facts were appended, and then one.
-fn appended(alloc: Global) -> Result<Option<(MemDisk, MemDisk)>, Fail> {
+fn disks_of_one_append(alloc: Global) -> Result<Option<(MemDisk, MemDisk)>, Fail> {
     let (mut a, mut b) = (empty(alloc)?, empty(alloc)?);
     Record::<MemDisk, Word>::format(&mut a, &mut b, 1, 3, 0)?;
     let Ok(mut record) = Record::<MemDisk, Word>::open(alloc, a, b) else {
@@ -128,7 +128,7 @@ fn open_to_one(alloc: Global, a: MemDisk, b: MemDisk) -> bool {
 
 #[test]
 fn an_append_makes_four_calls(rt: HostRuntime) -> Result<(), Fail> {
-    let Some((a, b)) = appended(rt.alloc())? else {
+    let Some((a, b)) = disks_of_one_append(rt.alloc())? else {
         panic!(&rt; "not opened");
     };
     let written = last_writes(&a) == Some((BODY.as_slice(), [1].as_slice()));
@@ -221,11 +221,11 @@ const SHUT: [u8; 26] = [
 ];
 
 /// The octets of two disks, and why they are refused.
-const IMAGES: &[(&[u8], &[u8], Option<Fault>)] = &[
+const IMAGES: &[(&[u8], &[u8], Option<RecordFault>)] = &[
     (&WHOLE, &SHUT, None),
-    (&[], &[], Some(Fault::NotFormatted)),
-    (&WHOLE, &WHOLE, Some(Fault::NotFormatted)),
-    (&OLD, &[], Some(Fault::OldVersion)),
+    (&[], &[], Some(RecordFault::NotFormatted)),
+    (&WHOLE, &WHOLE, Some(RecordFault::NotFormatted)),
+    (&OLD, &[], Some(RecordFault::OldVersion)),
 ];
 
 /// How many octets of the first disk are left, and where it is damaged then.
@@ -239,7 +239,7 @@ fn each_bad_image_has_its_fault(rt: HostRuntime) -> Result<(), Fail> {
     }
     for (count, at) in CUTS {
         let found = fault_of(rt.alloc(), &WHOLE[..count], &SHUT)?;
-        assert_eq!(rt; found, Some(Fault::Damaged(at)));
+        assert_eq!(rt; found, Some(RecordFault::Damaged(at)));
     }
     Ok(())
 }
@@ -265,7 +265,11 @@ const CRASHES: [(u64, Torn, bool); 15] = [
 
 /// What a crash after so many calls of an append leaves, whether the append failed, and whether it
 /// is broken then.
-fn stopped(alloc: Global, calls: u64, torn: Torn) -> Result<(usize, Option<Fault>), Fail> {
+fn append_with_crash(
+    alloc: Global,
+    calls: u64,
+    torn: Torn,
+) -> Result<(usize, Option<RecordFault>), Fail> {
     let (mut a, mut b) = (empty(alloc)?, empty(alloc)?);
     Record::<MemDisk, Word>::format(&mut a, &mut b, 1, 3, 0)?;
     a.set_fuse(calls.saturating_add(2));
@@ -279,9 +283,9 @@ fn stopped(alloc: Global, calls: u64, torn: Torn) -> Result<(usize, Option<Fault
         return Ok((98, None));
     };
     let fault = match (answer, again) {
-        (Err(Fault::DiskFailed), Err(fault)) => Some(fault),
-        (Ok(()), Err(Fault::DiskFailed)) => None,
-        _ => Some(Fault::Memory),
+        (Err(RecordFault::DiskFailed), Err(fault)) => Some(fault),
+        (Ok(()), Err(RecordFault::DiskFailed)) => None,
+        _ => Some(RecordFault::Memory),
     };
     Ok((record.facts().len(), fault))
 }
@@ -290,9 +294,13 @@ fn stopped(alloc: Global, calls: u64, torn: Torn) -> Result<(usize, Option<Fault
 fn a_crash_leaves_the_facts_before_or_after(rt: HostRuntime) -> Result<(), Fail> {
     let alloc = rt.alloc();
     for (calls, torn, kept) in CRASHES {
-        let fault = if calls < 4 { Some(Fault::Broken) } else { None };
+        let fault = if calls < 4 {
+            Some(RecordFault::Broken)
+        } else {
+            None
+        };
         assert_eq!(rt;
-            stopped(alloc, calls, torn)?,
+            append_with_crash(alloc, calls, torn)?,
             (usize::from(kept), fault),
             "{calls}"
         );
@@ -340,10 +348,10 @@ fn with_four_bodies(alloc: Global) -> Result<Option<(MemDisk, MemDisk)>, Fail> {
 }
 
 /// Whether opening succeeded, or was refused with a fault that names the image as the cause.
-fn is_named(fault: Option<Fault>) -> bool {
+fn is_named(fault: Option<RecordFault>) -> bool {
     matches!(
         fault,
-        None | Some(Fault::NotFormatted) | Some(Fault::Damaged(_))
+        None | Some(RecordFault::NotFormatted) | Some(RecordFault::Damaged(_))
     )
 }
 

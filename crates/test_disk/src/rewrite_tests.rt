@@ -4,7 +4,7 @@ use crate::record_tests::Word;
 use std::alloc::{AllocError, Global};
 use std::test::Fail;
 use ts_disk::{MemDisk, Torn};
-use ts_record::{Fault, Progress, Record};
+use ts_record::{Progress, Record, RecordFault};
 use ts_synod::Fact;
 
 /// A disk without octets.
@@ -90,7 +90,11 @@ fn a_rewrite_keeps_the_force(rt: HostRuntime) -> Result<(), Fail> {
 
 /// What a crash leaves of a rewrite whose disks have these fuses: the rounds that were kept, and
 /// those that are opened.
-fn stopped(alloc: Global, fuse: (u64, u64), torn: (Torn, Torn)) -> Result<(u32, u32), Fail> {
+fn rewrite_with_crash(
+    alloc: Global,
+    fuse: (u64, u64),
+    torn: (Torn, Torn),
+) -> Result<(u32, u32), Fail> {
     let Some((_, kept, a, b)) = rewritten(alloc, fuse, 3)? else {
         return Ok((0, 0));
     };
@@ -107,7 +111,7 @@ const TORN: [Torn; 4] = [Torn::Old, Torn::New, Torn::Byte(0), Torn::Byte(0xff)];
 fn keeps_the_force(alloc: Global, fuse: (u64, u64), first: Torn) -> Result<bool, Fail> {
     let mut all = true;
     for second in TORN {
-        let (kept, found) = stopped(alloc, fuse, (first, second))?;
+        let (kept, found) = rewrite_with_crash(alloc, fuse, (first, second))?;
         let may_be_more = fuse.0 < fuse.1 || kept == 3;
         all &= found == kept || (may_be_more && found == kept.saturating_add(1));
     }
@@ -142,7 +146,10 @@ fn the_last_generation_is_not_rewritten(rt: HostRuntime) -> Result<(), Fail> {
     let Ok(mut record) = Record::<MemDisk, Word>::open(alloc, a, b) else {
         panic!(&rt; "not opened");
     };
-    assert_eq!(rt; record.compact(alloc), Err(Fault::GenerationsExhausted));
+    assert_eq!(rt;
+        record.compact(alloc),
+        Err(RecordFault::GenerationsExhausted)
+    );
     record.append(alloc, &[Fact::Used { round: 1 }])?;
     Ok(())
 }

@@ -52,7 +52,7 @@ pub fn place<T: Drop>(read: Result<T, Fault>) -> Option<(DerFault, usize)> {
 }
 
 /// Whether two attributes are the same, in each order, and whether their canonical forms are.
-fn compared(
+fn comparison(
     alloc: Global,
     a: Attribute<'_>,
     b: Attribute<'_>,
@@ -110,12 +110,12 @@ fn values_are_compared_in_canonical_form(rt: HostRuntime) {
     for &(tag, value, other_tag, other, is_one) in &VALUES {
         let (a, b) = (name(tag, value), name(other_tag, other));
         assert!(rt;
-            compared(rt.alloc(), a, b) == Ok((is_one, is_one, is_one)),
+            comparison(rt.alloc(), a, b) == Ok((is_one, is_one, is_one)),
             "{tag} {value:?} {other_tag} {other:?}"
         );
     }
     assert!(rt;
-        compared(rt.alloc(), ORGANIZED, name(UTF8_STRING, b"foo")) == Ok((false, false, false))
+        comparison(rt.alloc(), ORGANIZED, name(UTF8_STRING, b"foo")) == Ok((false, false, false))
     );
 }
 

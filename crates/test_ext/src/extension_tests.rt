@@ -116,12 +116,12 @@ fn an_extension_where_it_stands(rt: HostRuntime) -> Result<(), Fail> {
 }
 
 /// The place of the extension that is known so.
-fn found(octets: &[u8], known: Known) -> Result<Option<usize>, Fault> {
+fn place_of(octets: &[u8], known: Known) -> Result<Option<usize>, Fault> {
     Ok(extensions(octets)?.find(known).map(|x| x.at))
 }
 
 /// The place of the first extension that repeats an earlier one.
-fn repeated(octets: &[u8]) -> Result<Option<usize>, Fault> {
+fn first_repeat(octets: &[u8]) -> Result<Option<usize>, Fault> {
     Ok(extensions(octets)?.first_repeated().map(|x| x.at))
 }
 
@@ -136,7 +136,7 @@ fn a_repeated_extension_is_found_where_it_stands(rt: HostRuntime) -> Result<(), 
             Some(20),
         ),
     ] {
-        assert_eq!(rt; repeated(octets)?, wanted);
+        assert_eq!(rt; first_repeat(octets)?, wanted);
     }
     Ok(())
 }
@@ -174,7 +174,7 @@ fn the_first_rule_that_values_break(rt: HostRuntime) -> Result<(), Fail> {
 }
 
 /// The rule that the extensions within an explicit tag break in a certificate, and where.
-fn judged(octets: &[u8]) -> Result<Option<(CertRule, usize)>, Fault> {
+fn broken_rule(octets: &[u8]) -> Result<Option<(CertRule, usize)>, Fault> {
     let list = CheckedExtensions::read_explicit(Reader::new(octets).next()?, Holder::Certificate)?;
     Ok(list.fault.map(|f| (f.kind, f.at)))
 }
@@ -186,10 +186,10 @@ fn a_list_is_read_and_judged(rt: HostRuntime) -> Result<(), Fail> {
         (TAGGED_TWICE, Some((CertRule::DuplicateExtension, 13))),
         (TAGGED_FIVE, Some((CertRule::AddressLength, 13))),
     ] {
-        assert_eq!(rt; judged(octets)?, wanted);
+        assert_eq!(rt; broken_rule(octets)?, wanted);
     }
     assert_eq!(rt;
-        refusal(judged(MORE_THAN_HOST)),
+        refusal(broken_rule(MORE_THAN_HOST)),
         Some((DerFault::Trailing, 18))
     );
     Ok(())
@@ -202,7 +202,7 @@ fn an_extension_is_found_by_its_name(rt: HostRuntime) {
         (HOST, Known::IssuerAltName, None),
         (FIVE, Known::SubjectAltName, Some(11)),
     ] {
-        assert!(rt; found(octets, known) == Ok(wanted));
+        assert!(rt; place_of(octets, known) == Ok(wanted));
     }
 }
 

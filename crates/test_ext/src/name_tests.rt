@@ -40,7 +40,7 @@ fn name(octets: &[u8]) -> Result<Name<'_>, Fault> {
 
 /// Whether a name is one with another, in the comparison and in canonical form, whether it lies
 /// within the other, and whether its canonical form is the empty one.
-fn compared(alloc: Global, a: &[u8], b: &[u8]) -> Option<(bool, bool, bool, bool)> {
+fn comparison(alloc: Global, a: &[u8], b: &[u8]) -> Option<(bool, bool, bool, bool)> {
     let (a, b) = (name(a).ok()?, name(b).ok()?);
     let (canon, other) = (a.canon(alloc).ok()?, b.canon(alloc).ok()?);
     let is_empty = canon.same(&Canon::new(alloc));
@@ -69,7 +69,7 @@ const PAIRS: [(&[u8], &[u8], bool, bool, bool); 13] = [
 fn names_that_are_one_or_within(rt: HostRuntime) {
     for &(a, b, is_same, is_within, is_empty) in &PAIRS {
         assert!(rt;
-            compared(rt.alloc(), a, b) == Some((is_same, is_same, is_within, is_empty)),
+            comparison(rt.alloc(), a, b) == Some((is_same, is_same, is_within, is_empty)),
             "{a:?} {b:?}"
         );
     }

@@ -94,10 +94,11 @@ fn answer_to(alloc: Global, scene: &Scene<'_>, pieces: &[&[u8]], wanted: &str) -
     let mut face = Face::new(alloc, 0);
     let mut board = Board::new(alloc, 1);
     let is_taken = take(&mut face, &mut board, scene, pieces).is_ok();
-    (
-        is_taken && begins(face.octets(), wanted),
-        face.asks().is_some(),
-    )
+    let is_right = is_taken && begins(face.octets(), wanted);
+    let asks = face.asks().is_some();
+    drop(face);
+    drop(board);
+    (is_right, asks)
 }
 
 /// Whether octets begin as a text says, and are none where it is empty.
@@ -124,10 +125,12 @@ fn answers_without_the_node(rt: HostRuntime) {
 /// Takes what waits, and has the node answer it by a frame.
 fn step(face: &mut Face, board: &mut Board, frame: Frame) -> Result<(), HttpFault> {
     let scene = scene(false, &[]);
-    match face.take(&scene, board, 0) {
+    let given = match face.take(&scene, board, 0) {
         Ok(()) => face.give(&frame, board, 0),
         Err(fault) => Err(fault),
-    }
+    };
+    drop(frame);
+    given
 }
 
 /// Two requests that come together.
@@ -154,7 +157,12 @@ fn are_two_answered(alloc: Global) -> bool {
     let is_taken = take_two(&mut face, &mut board).is_ok();
     let status = b"\r\n\r\n{\"group\":731402,\"node\":2,\"nodes\":3,\"prefix\":7}\n";
     let octets = face.octets();
-    is_taken && octets.starts_with(b"HTTP/1.1 200 OK\r\n") && octets.ends_with(status)
+    let is_right = is_taken
+        && octets.starts_with(b"HTTP/1.1 200 OK\r\n")
+        && octets.ends_with(status);
+    drop(face);
+    drop(board);
+    is_right
 }
 
 #[test]

@@ -34,7 +34,7 @@ impl Read for OneByOne<'_> {
 }
 
 /// A reader of octets with an interruption before each.
-fn interrupted<'a>(octets: &'a [u8]) -> OneByOne<'a> {
+fn one_by_one<'a>(octets: &'a [u8]) -> OneByOne<'a> {
     OneByOne {
         octets,
         interrupts: true,
@@ -136,7 +136,7 @@ fn answers_scripts(rt: HostRuntime) {
     for &(script, text, status) in &SCRIPTS {
         assert!(rt; answers(rt.alloc(), script, status, text), "{script:?}");
         assert!(rt;
-            answers(rt.alloc(), interrupted(script), status, text),
+            answers(rt.alloc(), one_by_one(script), status, text),
             "{script:?}"
         );
     }

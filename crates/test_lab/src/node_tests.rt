@@ -219,7 +219,7 @@ fn nodes_agree(rt: HostRuntime) -> Result<(), AllocError> {
 }
 
 /// What the lines before a question print.
-fn loaded(alloc: Global, lists: &[&str]) -> Result<(String, String), AllocError> {
+fn text_before(alloc: Global, lists: &[&str]) -> Result<(String, String), AllocError> {
     let mut lines = String::from_str(alloc, BEGUN)?;
     let mut text = String::from_str(alloc, BEGUN_TEXT)?;
     for (list, (id, ballot)) in lists.iter().zip([(2, 33), (3, 49)]) {
@@ -235,7 +235,7 @@ fn loaded(alloc: Global, lists: &[&str]) -> Result<(String, String), AllocError>
 fn the_status_is_that_of_the_lists(rt: HostRuntime) -> Result<(), AllocError> {
     let alloc = rt.alloc();
     for (lists, options, answer) in STATUSES {
-        let (lines, mut text) = loaded(alloc, lists)?;
+        let (lines, mut text) = text_before(alloc, lists)?;
         let question = format!(in alloc; "ask 1 R at 20260601000000Z{options} chain L\n")?;
         text.push_str(answer)?;
         text.push_str("\n")?;

@@ -4,7 +4,7 @@ use crate::numbers::Numbers;
 use std::alloc::{AllocError, Global};
 use std::test::Fail;
 use ts_links::reaching::{arrive, close, leave, open, take_some};
-use ts_links::{ArriveFault, Connections, Deadlines, Stage, Taken};
+use ts_links::{ArriveFault, Connections, Deadlines, Stage, TakeResult};
 
 const STATUS: &[u8] = b"\x00\x00\x00\x02\x02\x15";
 
@@ -69,7 +69,7 @@ fn a_stream_may_be_cut_anywhere(rt: HostRuntime) -> Result<(), Fail> {
 }
 
 /// Two streams, octet by octet in turns, are answered each for itself.
-fn interleaved(alloc: Global) -> Result<bool, AllocError> {
+fn answers_interleaved_streams(alloc: Global) -> Result<bool, AllocError> {
     let mut table = Connections::new(alloc, 2)?;
     let mut service = Numbers::new(alloc);
     let a = table.open(0);
@@ -85,7 +85,7 @@ fn interleaved(alloc: Global) -> Result<bool, AllocError> {
 
 #[test]
 fn two_streams_keep_apart(rt: HostRuntime) -> Result<(), Fail> {
-    assert!(rt; interleaved(rt.alloc())?);
+    assert!(rt; answers_interleaved_streams(rt.alloc())?);
     Ok(())
 }
 
@@ -97,7 +97,7 @@ fn faulty(alloc: Global) -> Result<bool, AllocError> {
     let _b = table.open(0);
     feed(&mut table, &mut service, 0, b"\x00\x00\x00\x02\x02\x24", 0)?;
     let refused = table.arrive(0, STATUS, 0) == Err(ArriveFault::NotOpen);
-    let nothing = table.take(0, &mut service, 0)? == Taken::Nothing;
+    let nothing = table.take(0, &mut service, 0)? == TakeResult::Nothing;
     let said = table.waiting(0) == KIND && table.stage(0) == Stage::Refused;
     feed(&mut table, &mut service, 1, STATUS, 0)?;
     let other = table.waiting(1) == PREFIX_0;
@@ -111,7 +111,7 @@ fn a_fault_ends_its_own_stream(rt: HostRuntime) -> Result<(), Fail> {
 }
 
 /// No request is taken while 65,536 octets wait, and no more is read while as many are held.
-fn bounded(alloc: Global) -> Result<bool, AllocError> {
+fn bounds_what_waits(alloc: Global) -> Result<bool, AllocError> {
     let mut table = Connections::new(alloc, 1)?;
     let mut service = Numbers::new(alloc);
     let _slot = table.open(0);
@@ -121,13 +121,13 @@ fn bounded(alloc: Global) -> Result<bool, AllocError> {
     let full = table.arrive(0, STATUS, 0) == Err(ArriveFault::Full) && !table.reads(0);
     let waits = table.waiting(0).len() == 65_540;
     let left = table.leave(0, 10, 0) && !table.leave(0, 65_531, 0);
-    let takes = table.take(0, &mut service, 0)? == Taken::Request;
+    let takes = table.take(0, &mut service, 0)? == TakeResult::Request;
     Ok(full && waits && left && takes && table.waiting(0).len() == 65_540)
 }
 
 #[test]
 fn a_slow_reader_holds_back_its_own_requests(rt: HostRuntime) -> Result<(), Fail> {
-    assert!(rt; bounded(rt.alloc())?);
+    assert!(rt; bounds_what_waits(rt.alloc())?);
     Ok(())
 }
 
@@ -189,18 +189,18 @@ fn reach(table: &mut Connections, piece: &[u8]) -> Result<(), AllocError> {
 }
 
 /// A connection is opened, asks, is answered and closed, by the calls that a loop keeps.
-fn reached(alloc: Global) -> Result<bool, AllocError> {
+fn serves_one_connection(alloc: Global) -> Result<bool, AllocError> {
     let mut table = Connections::new(alloc, 2)?;
     let mut service = Numbers::new(alloc);
     let opened = open(&mut table, 0) == Some(0) && table.slots() == 2;
     reach(&mut table, b"\x00\x00\x00\x02")?;
-    let held = table.held(0).len() == 4 && table.waiting(0).is_empty();
+    let held = table.octets_held(0).len() == 4 && table.waiting(0).is_empty();
     reach(&mut table, b"\x02\x15")?;
     let (taken, had_memory) = take_some(&mut table, 0, &mut service, 64, 0);
     if !had_memory {
         return Err(AllocError);
     }
-    let said = taken == 1 && table.waiting(0) == PREFIX_0 && table.held(0).is_empty();
+    let said = taken == 1 && table.waiting(0) == PREFIX_0 && table.octets_held(0).is_empty();
     let left = leave(&mut table, 0, PREFIX_0.len(), 0) && table.waiting(0).is_empty();
     let closed = close(&mut table, 0) && !close(&mut table, 2);
     let refused = !arrive(&mut table, 0, STATUS, 0) && !arrive(&mut table, 1, STATUS, 0);
@@ -209,6 +209,6 @@ fn reached(alloc: Global) -> Result<bool, AllocError> {
 
 #[test]
 fn a_loop_serves_a_connection(rt: HostRuntime) -> Result<(), Fail> {
-    assert!(rt; reached(rt.alloc())?);
+    assert!(rt; serves_one_connection(rt.alloc())?);
     Ok(())
 }

@@ -29,7 +29,10 @@ fn prefix(alloc: Global, number: u32) -> Result<Vec<u8>, AllocError>
     ensures { IfOk result (λ octets. octets.items ≡ text (Prefix number ∷ [])) }
 {
     let mut octets = Vec::new(alloc);
-    match write_frame(alloc, &mut octets, &Frame::Prefix { prefix: number }) {
+    let frame = Frame::Prefix { prefix: number };
+    let written = write_frame(alloc, &mut octets, &frame);
+    drop(frame);
+    match written {
         Ok(()) => Ok(octets),
         Err(_) => Err(AllocError),
     }
@@ -46,7 +49,9 @@ impl Service for Numbers {
     ghost keeps = { λ old new. new ≡ old };
 
     fn answer(&mut self, frame: Frame) -> Result<Vec<u8>, AnswerFault> {
-        if !is_request(&frame) {
+        let is_taken = is_request(&frame);
+        drop(frame);
+        if !is_taken {
             return Err(AnswerFault::NoRequest);
         }
         let number = self.next;

@@ -12,9 +12,9 @@ use crate::group_machine::{Number, Takes};
 use std::alloc::{AllocError, Global};
 use std::marker::Model;
 use ts_disk::{MemDisk, Torn};
-use ts_node::{Input, Node, NodeFault, Output, Refused, Reply, Staged};
-use ts_record::{Fault, Record};
-use ts_synod::{Ballot, Body, Message};
+use ts_node::{Input, Node, Output, RefusedNode, Reply, StagedFacts};
+use ts_record::{Record, RecordFault};
+use ts_synod::{Ballot, Body, Message, NodeFault};
 
 type Small = Node<MemDisk, Number, Takes>;
 
@@ -131,14 +131,14 @@ impl Sent {
 }
 
 /// The node on two disks. Where memory is refused it is opened again from what is given back.
-fn opened(alloc: Global, a: MemDisk, b: MemDisk) -> Result<Small, Refused<MemDisk, Takes>>
+fn open_again(alloc: Global, a: MemDisk, b: MemDisk) -> Result<Small, RefusedNode<MemDisk, Takes>>
     ensures { IfOk result (λ node. IsSound state_of (λ (number : Number). number.value ∷ [])
         (λ (machine : Takes). machine.commands.items) node) }
 {
     match Node::open(alloc, a, b, Takes::new(alloc)) {
         Err(
-            Refused {
-                fault: Fault::Memory,
+            RefusedNode {
+                fault: RecordFault::Memory,
                 a,
                 b,
                 machine,
@@ -219,11 +219,11 @@ impl Member {
         torn: Torn,
         learned: Vec<Number>,
     ) -> Result<(Member, bool), AllocError> {
-        match opened(alloc, a, b) {
+        match open_again(alloc, a, b) {
             Ok(node) => Ok((Member { node, learned }, false)),
             Err(
-                Refused {
-                    fault: Fault::DiskFailed,
+                RefusedNode {
+                    fault: RecordFault::DiskFailed,
                     a,
                     b,
                     machine: _,
@@ -241,7 +241,7 @@ impl Member {
         torn: Torn,
         learned: Vec<Number>,
     ) -> Result<Member, AllocError> {
-        match opened(alloc, a.crash(torn)?, b.crash(torn)?) {
+        match open_again(alloc, a.crash(torn)?, b.crash(torn)?) {
             Ok(node) => Ok(Member { node, learned }),
             Err(_) => Err(AllocError),
         }
@@ -274,12 +274,32 @@ impl Member {
         requires second { InputFits (λ (number : Number). number.value ∷ []) second.now }
     {
         let Member { mut node, learned } = self;
-        let mut staged = Staged::empty(alloc);
+        let mut staged = StagedFacts::empty(alloc);
         let one = node.stage(first, &mut staged)?;
         let two = node.stage(second, &mut staged)?;
         node.keep_staged(&mut staged)?;
         let given = one.messages.len().saturating_add(two.messages.len());
         Ok((Member { node, learned }, given))
+    }
+
+    /// The only node of its group once it has learned a command at every position of the log. The
+    /// facts wait in memory as long as a record can keep them together.
+    pub fn with_full_log(self, alloc: Global, command: Number) -> Result<Member, NodeFault> {
+        let Member { mut node, learned } = self;
+        let mut staged = StagedFacts::empty(alloc);
+        for position in 1..=1_000_000 {
+            let give = Message {
+                from: 1,
+                to: 1,
+                body: Body::Give { position, command },
+            };
+            let Some(sent) = Sent::new(give) else {
+                return Err(NodeFault::Memory);
+            };
+            node.stage(sent.input(), &mut staged)?;
+        }
+        node.keep_staged(&mut staged)?;
+        Ok(Member { node, learned })
     }
 
     /// How many calls its first disk was given.
@@ -354,6 +374,19 @@ impl Member {
             None => false,
         }
     }
+}
+
+/// What happens in a run of a group: a node is submitted a command or restarts, messages are
+/// delivered by their numbers or until none is left, each node makes a step of a rewrite of its
+/// record or asks the others for what it has not learned.
+#[derive(Clone, Copy)]
+pub(crate) enum Step {
+    Submit(usize, u8),
+    Restart(usize),
+    Deliver(&'static [usize]),
+    Settle,
+    Compact,
+    CatchUp,
 }
 
 /// A vote that an acceptor sent.
@@ -510,7 +543,7 @@ impl Group {
     }
 
     /// Opens a node again from its disks.
-    pub fn restart(&mut self, place: usize) -> Result<(), AllocError> {
+    fn restart(&mut self, place: usize) -> Result<(), AllocError> {
         if place >= self.members.len() {
             return Err(AllocError);
         }
@@ -551,7 +584,7 @@ impl Group {
     }
 
     /// Submits a command to a node.
-    pub fn submit(&mut self, place: usize, value: u8) -> Result<(), AllocError> {
+    fn submit(&mut self, place: usize, value: u8) -> Result<(), AllocError> {
         let Some(member) = self.members.get_mut(place) else {
             return Err(AllocError);
         };
@@ -564,7 +597,7 @@ impl Group {
     }
 
     /// Lets each node make a step of a rewrite of its record.
-    pub fn compact(&mut self) -> Result<(), AllocError> {
+    fn compact(&mut self) -> Result<(), AllocError> {
         for place in 0..self.members.len() {
             let Some(member) = self.members.get_mut(place) else {
                 return Err(AllocError);
@@ -576,7 +609,7 @@ impl Group {
     }
 
     /// Lets each node ask the others for what it has not learned.
-    pub fn catch_up(&mut self) -> Result<(), AllocError> {
+    fn catch_up(&mut self) -> Result<(), AllocError> {
         for place in 0..self.members.len() {
             let Some(member) = self.members.get_mut(place) else {
                 return Err(AllocError);
@@ -602,7 +635,7 @@ impl Group {
     }
 
     /// Delivers messages by their numbers, the first for 1, leaving out those that there are not.
-    pub fn deliver_all(&mut self, numbers: &[usize]) -> Result<(), AllocError> {
+    fn deliver_all(&mut self, numbers: &[usize]) -> Result<(), AllocError> {
         for number in numbers {
             let place = number.wrapping_sub(1);
             if place < self.sent.len() {
@@ -626,6 +659,26 @@ impl Group {
             }
         }
         Err(AllocError)
+    }
+
+    /// Makes a step of a run.
+    fn make(&mut self, step: Step) -> Result<(), AllocError> {
+        match step {
+            Step::Submit(place, value) => self.submit(place, value),
+            Step::Restart(place) => self.restart(place),
+            Step::Deliver(numbers) => self.deliver_all(numbers),
+            Step::Settle => self.settle().map(|_| ()),
+            Step::Compact => self.compact(),
+            Step::CatchUp => self.catch_up(),
+        }
+    }
+
+    /// Makes the steps of a run, one after another.
+    pub fn make_all(&mut self, steps: &[Step]) -> Result<(), AllocError> {
+        for step in steps {
+            self.make(*step)?;
+        }
+        Ok(())
     }
 
     /// Whether all nodes have learned the same commands, so many, and each that was answered as

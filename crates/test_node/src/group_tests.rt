@@ -2,30 +2,29 @@
 //! devices stop and fail: the nodes that learn a command learn the same one, what was chosen stays
 //! chosen, and what was answered as settled stays settled.
 
-use crate::group::{Failing, Group, NO_TROUBLE, Trouble};
+use crate::group::{Failing, Group, NO_TROUBLE, Step, Trouble};
 use crate::group_machine::Number;
 use std::alloc::{AllocError, Global};
 use std::test::Fail;
 use ts_disk::Torn;
 
-/// A proposer is restarted, another takes over, and the first one comes back. Returns how many
-/// messages were left at the end.
-fn classic_run(group: &mut Group) -> Result<u32, AllocError> {
-    group.submit(0, 1)?;
-    group.deliver_all(&[1, 2])?;
-    group.restart(0)?;
-    group.deliver_all(&[4, 5])?;
-    group.submit(1, 2)?;
-    group.deliver_all(&[6, 8, 9, 10, 11])?;
-    group.submit(0, 1)?;
-    group.deliver_all(&[17, 18, 20, 21, 12, 22, 23, 26, 29])?;
-    group.settle()
-}
+/// A proposer is restarted, another takes over, and the first one comes back.
+const CLASSIC_RUN: [Step; 8] = [
+    Step::Submit(0, 1),
+    Step::Deliver(&[1, 2]),
+    Step::Restart(0),
+    Step::Deliver(&[4, 5]),
+    Step::Submit(1, 2),
+    Step::Deliver(&[6, 8, 9, 10, 11]),
+    Step::Submit(0, 1),
+    Step::Deliver(&[17, 18, 20, 21, 12, 22, 23, 26, 29]),
+];
 
 #[test]
 fn both_commands_are_learned_in_one_order(rt: HostRuntime) -> Result<(), Fail> {
     let mut group = Group::new(rt.alloc(), NO_TROUBLE)?;
-    let left = classic_run(&mut group)?;
+    group.make_all(&CLASSIC_RUN)?;
+    let left = group.settle()?;
     // Where one allocation is refused, a node answers so once and the run is the same, or a disk in
     // memory has failed.
     assert!(rt; group.agrees && group.refusals < 2);
@@ -47,19 +46,35 @@ const DISKS: [(u8, bool, u64); 6] = [
 
 const TORN: [Torn; 3] = [Torn::Old, Torn::New, Torn::Byte(0xff)];
 
-/// The classic run in which devices fail; then both commands are submitted again until they are
-/// learned, and the nodes catch up. How often a device failed, and whether the nodes agreed all
-/// along and have the same two commands in the end.
-fn ended(alloc: Global, trouble: Trouble) -> Result<(u32, bool), AllocError> {
+/// Both commands of the classic run are submitted again until they are learned, and the nodes catch
+/// up.
+const CLASSIC_AGAIN: [Step; 11] = [
+    Step::Settle,
+    Step::Submit(0, 1),
+    Step::Settle,
+    Step::Submit(1, 2),
+    Step::Settle,
+    Step::Submit(0, 1),
+    Step::Settle,
+    Step::Submit(1, 2),
+    Step::Settle,
+    Step::CatchUp,
+    Step::Settle,
+];
+
+/// A run in which devices fail, and another behind it. How often a device failed, and whether the
+/// nodes agreed all along and have the same commands in the end, so many.
+fn end_of_run(
+    alloc: Global,
+    trouble: Trouble,
+    steps: &[Step],
+    again: &[Step],
+    count: usize,
+) -> Result<(u32, bool), AllocError> {
     let mut group = Group::new(alloc, trouble)?;
-    let _left = classic_run(&mut group)?;
-    for (place, value) in [(0, 1), (1, 2), (0, 1), (1, 2)] {
-        group.submit(place, value)?;
-        let _left = group.settle()?;
-    }
-    group.catch_up()?;
-    let _left = group.settle()?;
-    let is_well = group.agrees && group.refusals == 0 && group.have_same(2);
+    group.make_all(steps)?;
+    group.make_all(again)?;
+    let is_well = group.agrees && group.refusals == 0 && group.have_same(count);
     Ok((group.stops, is_well))
 }
 
@@ -84,7 +99,8 @@ fn agree(
             failing,
             torn,
         };
-        if ended(alloc, trouble)? != (u32::from(before < calls), true) {
+        let found = end_of_run(alloc, trouble, &CLASSIC_RUN, &CLASSIC_AGAIN, 2)?;
+        if found != (u32::from(before < calls), true) {
             return Ok(false);
         }
     }
@@ -113,43 +129,45 @@ fn each_call_fails_once(rt: HostRuntime) -> Result<(), Fail> {
 
 /// A longer run: commands are settled and answered so; then each record is rewritten while another
 /// command is under way; nodes restart, and one catches up.
-fn long_run(group: &mut Group) -> Result<(), AllocError> {
-    group.submit(0, 1)?;
-    let _left = group.settle()?;
-    group.submit(0, 1)?;
-    group.compact()?;
-    group.submit(1, 2)?;
-    group.compact()?;
-    let _left = group.settle()?;
-    group.submit(2, 2)?;
-    for _step in 0..3 {
-        group.compact()?;
-    }
-    group.restart(2)?;
-    group.submit(2, 3)?;
-    group.compact()?;
-    group.restart(0)?;
-    let _left = group.settle()?;
-    group.submit(1, 3)?;
-    group.catch_up()?;
-    let _left = group.settle()?;
-    Ok(())
-}
+const LONG_RUN: [Step; 19] = [
+    Step::Submit(0, 1),
+    Step::Settle,
+    Step::Submit(0, 1),
+    Step::Compact,
+    Step::Submit(1, 2),
+    Step::Compact,
+    Step::Settle,
+    Step::Submit(2, 2),
+    Step::Compact,
+    Step::Compact,
+    Step::Compact,
+    Step::Restart(2),
+    Step::Submit(2, 3),
+    Step::Compact,
+    Step::Restart(0),
+    Step::Settle,
+    Step::Submit(1, 3),
+    Step::CatchUp,
+    Step::Settle,
+];
 
-/// The longer run, in which devices fail; then its commands are submitted again until they are
-/// learned, and the nodes catch up.
-fn long_ended(alloc: Global, trouble: Trouble) -> Result<(u32, bool), AllocError> {
-    let mut group = Group::new(alloc, trouble)?;
-    long_run(&mut group)?;
-    for (place, value) in [(0, 1), (1, 2), (2, 3), (0, 1), (1, 2), (2, 3)] {
-        group.submit(place, value)?;
-        let _left = group.settle()?;
-    }
-    group.catch_up()?;
-    let _left = group.settle()?;
-    let is_well = group.agrees && group.refusals == 0 && group.have_same(3);
-    Ok((group.stops, is_well))
-}
+/// Its commands are submitted again until they are learned, and the nodes catch up.
+const LONG_AGAIN: [Step; 14] = [
+    Step::Submit(0, 1),
+    Step::Settle,
+    Step::Submit(1, 2),
+    Step::Settle,
+    Step::Submit(2, 3),
+    Step::Settle,
+    Step::Submit(0, 1),
+    Step::Settle,
+    Step::Submit(1, 2),
+    Step::Settle,
+    Step::Submit(2, 3),
+    Step::Settle,
+    Step::CatchUp,
+    Step::Settle,
+];
 
 /// How many calls of a disk there are, each of which fails once; `None` where the nodes do not
 /// agree.
@@ -166,7 +184,7 @@ fn calls_of(
             failing: Failing::Once(before + 1),
             torn,
         };
-        match long_ended(alloc, trouble)? {
+        match end_of_run(alloc, trouble, &LONG_RUN, &LONG_AGAIN, 3)? {
             (1, true) => {}
             (0, true) => return Ok(Some(before)),
             _ => return Ok(None),

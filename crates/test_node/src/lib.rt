@@ -5,6 +5,8 @@
 #![tactic(auto)]
 
 #[cfg(test)]
+mod full_tests;
+#[cfg(test)]
 mod group;
 #[cfg(test)]
 mod group_ids;

@@ -16,17 +16,13 @@ use ts_synod::{Fact, Message};
 /// The two nodes, and each message that was sent.
 #[derive(Drop)]
 struct World {
-    first: Member,
-    second: Member,
+    alloc: Global,
+    members: Vec<Member>,
     sent: Vec<Sent>,
 }
 
 /// The records of the two nodes.
-#[derive(Drop)]
-struct Records {
-    first: Record<MemDisk, Number>,
-    second: Record<MemDisk, Number>,
-}
+type Records = Vec<Record<MemDisk, Number>>;
 
 /// What happens at a node: the message of a number is delivered, a command is submitted, the node
 /// asks for what it has not learned, or it restarts.
@@ -44,6 +40,15 @@ struct Event {
     node: u8,
     happens: Happens,
     stops: bool,
+}
+
+impl Event {
+    /// The place of its node.
+    fn place(&self) -> usize
+        ensures { result ≤ 1 }
+    {
+        if self.node == 1 { 0 } else { 1 }
+    }
 }
 
 /// The event that this happens at a node, which does not stop.
@@ -65,7 +70,7 @@ fn new_member(alloc: Global, node: u8) -> Result<Member, AllocError>
 }
 
 /// What a node sends at an input.
-fn handled(
+fn messages_sent(
     member: &mut Member,
     input: &Input<Number, ()>,
 ) -> Result<Vec<Message<Number>>, AllocError>
@@ -86,76 +91,94 @@ fn sends(
 ) -> Result<Vec<Message<Number>>, AllocError> {
     match happens {
         Happens::Deliver(which) => match sent.get(which) {
-            Some(message) => handled(member, message.input()),
+            Some(message) => messages_sent(member, message.input()),
             None => Err(AllocError),
         },
-        Happens::Submit(value) => handled(member, &Input::Submit(Number { value })),
-        Happens::CatchUp => handled(member, &Input::CatchUp),
+        Happens::Submit(value) => messages_sent(member, &Input::Submit(Number { value })),
+        Happens::CatchUp => messages_sent(member, &Input::CatchUp),
         Happens::Restart => Ok(Vec::new(alloc)),
     }
 }
 
-/// A node after an event, and what it sends.
-fn member_after(
-    alloc: Global,
-    mut member: Member,
-    sent: &[Sent],
-    event: &Event,
-) -> Result<(Member, Vec<Message<Number>>), AllocError> {
-    let messages = sends(alloc, &mut member, sent, event.happens)?;
-    if event.stops || matches!(event.happens, Happens::Restart) {
-        let (member, _has_failed) = member.restarted(alloc, Torn::New)?;
-        return Ok((member, Vec::new(alloc)));
+impl World {
+    /// Two nodes on new disks, which have sent nothing.
+    fn new(alloc: Global) -> Result<World, AllocError> {
+        let mut members = Vec::new(alloc);
+        for node in 1..=2 {
+            members.push(new_member(alloc, node)?)?;
+        }
+        Ok(World {
+            alloc,
+            members,
+            sent: Vec::new(alloc),
+        })
     }
-    Ok((member, messages))
-}
 
-/// The world after an event.
-fn next_world(alloc: Global, world: World, event: &Event) -> Result<World, AllocError> {
-    let World {
-        first,
-        second,
-        mut sent,
-    } = world;
-    let (first, second, messages) = if event.node == 1 {
-        let (first, messages) = member_after(alloc, first, &sent, event)?;
-        (first, second, messages)
-    } else {
-        let (second, messages) = member_after(alloc, second, &sent, event)?;
-        (first, second, messages)
-    };
-    for message in messages {
-        match Sent::new(message) {
-            Some(message) => sent.push(message)?,
-            None => return Err(AllocError),
-        };
+    /// Keeps messages that were sent.
+    fn post(&mut self, messages: Vec<Message<Number>>) -> Result<(), AllocError> {
+        for message in messages {
+            match Sent::new(message) {
+                Some(sent) => self.sent.push(sent)?,
+                None => return Err(AllocError),
+            };
+        }
+        Ok(())
     }
-    Ok(World {
-        first,
-        second,
-        sent,
-    })
+
+    /// Opens a node again from its disks.
+    fn restart(&mut self, place: usize) -> Result<(), AllocError> {
+        if place >= self.members.len() {
+            return Err(AllocError);
+        }
+        let (member, _has_failed) = self.members.remove(place).restarted(self.alloc, Torn::New)?;
+        self.members.insert(place, member)?;
+        Ok(())
+    }
+
+    /// Lets an event happen.
+    fn make(&mut self, event: &Event) -> Result<(), AllocError> {
+        let place = event.place();
+        let Some(member) = self.members.get_mut(place) else {
+            return Err(AllocError);
+        };
+        let messages = sends(self.alloc, member, &self.sent, event.happens)?;
+        if event.stops || matches!(event.happens, Happens::Restart) {
+            return self.restart(place);
+        }
+        self.post(messages)
+    }
+
+    /// Lets events happen in turn.
+    fn make_all(&mut self, events: &[Event]) -> Result<(), AllocError> {
+        for event in events {
+            self.make(event)?;
+        }
+        Ok(())
+    }
 }
 
 /// The world after events in turn.
 fn world_after(alloc: Global, events: &[Event]) -> Result<World, AllocError> {
-    let mut world = World {
-        first: new_member(alloc, 1)?,
-        second: new_member(alloc, 2)?,
-        sent: Vec::new(alloc),
-    };
-    for event in events {
-        world = next_world(alloc, world, event)?;
-    }
+    let mut world = World::new(alloc)?;
+    world.make_all(events)?;
     Ok(world)
 }
 
 /// The records of the nodes of a world.
-fn records_of(alloc: Global, world: World) -> Result<Records, AllocError> {
-    Ok(Records {
-        first: world.first.record(alloc)?,
-        second: world.second.record(alloc)?,
-    })
+fn records_of(alloc: Global, members: Vec<Member>) -> Result<Records, AllocError> {
+    let mut records = Vec::new(alloc);
+    for member in members {
+        records.push(member.record(alloc)?)?;
+    }
+    Ok(records)
+}
+
+/// The facts of the node at a place; none where there is no node.
+fn facts_of(records: &Records, place: usize) -> &[Fact<Number>] {
+    match records.get(place) {
+        Some(record) => record.facts(),
+        None => &[],
+    }
 }
 
 /// A node has taken a command at a position in a ballot.
@@ -179,14 +202,14 @@ fn took(facts: &[Fact<Number>], place: u32, number: u64, value: u8) -> bool {
 /// there.
 fn chosen_by(alloc: Global, records: &Records) -> Result<Vec<(u32, u8)>, AllocError> {
     let mut chosen = Vec::new(alloc);
-    for fact in records.first.facts() {
+    for fact in facts_of(records, 0) {
         if let Fact::Took {
             position,
             ballot,
             command,
         } = fact
         {
-            if took(records.second.facts(), *position, *ballot, command.value) {
+            if took(facts_of(records, 1), *position, *ballot, command.value) {
                 chosen.push((*position, command.value))?;
             }
         }
@@ -216,7 +239,7 @@ fn is_alone(chosen: &[(u32, u8)], place: u32, value: u8) -> bool {
 
 /// What a list of events shows.
 #[derive(Clone, Copy, Debug, PartialEq, Eq)]
-struct Seen {
+struct SentMessages {
     /// How many lists of events.
     lists: u64,
     /// In how many of them the last event makes a command chosen.
@@ -228,8 +251,8 @@ struct Seen {
 }
 
 /// The sums of two counts, field by field.
-fn sum_of(a: Seen, b: Seen) -> Seen {
-    Seen {
+fn sum_of(a: SentMessages, b: SentMessages) -> SentMessages {
+    SentMessages {
         lists: a.lists.saturating_add(b.lists),
         chosen: a.chosen.saturating_add(b.chosen),
         learned: a.learned.saturating_add(b.learned),
@@ -269,8 +292,8 @@ fn look_behind(
     others: &[Fact<Number>],
     chosen: &[(u32, u8)],
     events: &[Event],
-) -> Seen {
-    let mut seen = Seen {
+) -> SentMessages {
+    let mut seen = SentMessages {
         lists: 1,
         chosen: 0,
         learned: 0,
@@ -292,18 +315,18 @@ fn look_after(
     chosen: &[(u32, u8)],
     events: &[Event],
     event: &Event,
-) -> Result<Seen, AllocError> {
-    let world = next_world(alloc, world_after(alloc, events)?, event)?;
-    let after = records_of(alloc, world)?;
-    Ok(if event.node == 1 {
-        let count = before.first.facts().len();
-        let others = before.second.facts();
-        look_behind(after.first.facts(), count, others, chosen, events)
-    } else {
-        let count = before.second.facts().len();
-        let others = before.first.facts();
-        look_behind(after.second.facts(), count, others, chosen, events)
-    })
+) -> Result<SentMessages, AllocError> {
+    let mut world = world_after(alloc, events)?;
+    world.make(event)?;
+    let after = records_of(alloc, world.members)?;
+    let (place, other) = (event.place(), 1 - event.place());
+    Ok(look_behind(
+        facts_of(&after, place),
+        facts_of(before, place).len(),
+        facts_of(before, other),
+        chosen,
+        events,
+    ))
 }
 
 /// An event, and the same at which the node stops.
@@ -349,6 +372,30 @@ fn is_in_order(events: &[Event], before: Option<usize>, event: &Event) -> bool {
     }
 }
 
+/// What a list of events comes to: how many messages were sent, the events that may come next, the
+/// records of the nodes, and what is chosen by them.
+#[derive(Drop)]
+struct Survey {
+    sent: usize,
+    next: Vec<Event>,
+    records: Records,
+    chosen: Vec<(u32, u8)>,
+}
+
+/// What these events come to.
+fn look_at(alloc: Global, events: &[Event]) -> Result<Survey, AllocError> {
+    let World { members, sent, .. } = world_after(alloc, events)?;
+    let next = next_events(alloc, events, &sent)?;
+    let records = records_of(alloc, members)?;
+    let chosen = chosen_by(alloc, &records)?;
+    Ok(Survey {
+        sent: sent.len(),
+        next,
+        records,
+        chosen,
+    })
+}
+
 /// What each list of events shows that goes on from these, by at most so many more. Before the last
 /// of these so many messages were sent; where no number is given, the last of them stays in its
 /// place.
@@ -357,26 +404,23 @@ fn explore(
     events: &mut Vec<Event>,
     before: Option<usize>,
     more: u32,
-) -> Result<Seen, AllocError> {
-    let world = world_after(alloc, events)?;
-    let sent = world.sent.len();
-    let next = next_events(alloc, events, &world.sent)?;
-    let records = records_of(alloc, world)?;
-    let chosen = chosen_by(alloc, &records)?;
-    let mut all = Seen {
+) -> Result<SentMessages, AllocError> {
+    let seen = look_at(alloc, events)?;
+    let mut all = SentMessages {
         lists: 0,
         chosen: 0,
         learned: 0,
         broken: 0,
     };
-    for event in &next {
+    for event in &seen.next {
         if more == 0 || !is_in_order(events, before, event) {
             continue;
         }
-        all = sum_of(all, look_after(alloc, &records, &chosen, events, event)?);
+        let found = look_after(alloc, &seen.records, &seen.chosen, events, event)?;
+        all = sum_of(all, found);
         if more > 1 {
             events.push(*event)?;
-            all = sum_of(all, explore(alloc, events, Some(sent), more - 1)?);
+            all = sum_of(all, explore(alloc, events, Some(seen.sent), more - 1)?);
             let _last = events.pop();
         }
     }

@@ -1,6 +1,7 @@
 //! A turn keeps what follows from an input at the node itself by one append.
 
-ghost use Rattle.std.specs.Prelude.{◌≤◌};
+ghost use Rattle.std.specs.Prelude.{◌≤◌, ◌∷◌, []};
+ghost use Rattle.ts_node.specs.Inputs.{InputFits};
 
 use crate::group::Member;
 use crate::group_machine::Number;
@@ -8,40 +9,53 @@ use std::alloc::{AllocError, Global};
 use std::test::Fail;
 use ts_node::{Input, Reply};
 
-/// The calls of the first disk in opening a node of so many, and in a turn of a command; how many
-/// messages the turn gives out, and how many commands the node knows then.
-fn turn_of(alloc: Global, nodes: u8) -> Result<(usize, usize, usize, u32), AllocError>
+/// How many commands a node knows. `None` where it does not say.
+fn prefix_of(member: &mut Member) -> Option<u32> {
+    match member.handle(&Input::Status) {
+        (Ok(status), _) => match status.reply {
+            Reply::Prefix(prefix) => Some(prefix),
+            _ => None,
+        },
+        (Err(_), _) => None,
+    }
+}
+
+/// How many messages a turn of a command gives out, which begins the first round. `None` where it
+/// does not.
+fn given_by(member: &mut Member) -> Option<usize> {
+    match member.turn(Number { value: 7 }) {
+        Ok(output) => match output.reply {
+            Reply::Started {
+                position: 1,
+                ballot: 17,
+            } => Some(output.messages.len()),
+            _ => None,
+        },
+        Err(_) => None,
+    }
+}
+
+/// The calls of the first disk in opening a node of so many.
+fn opening_of(alloc: Global, nodes: u8) -> Result<usize, AllocError>
     requires from { 1 ≤ nodes }
     requires few { nodes ≤ 9 }
 {
-    let idle = Member::first(alloc, nodes)?;
+    Ok(Member::first(alloc, nodes)?.calls())
+}
+
+/// How many calls the first disk was given, how many messages the node gave out, and how many
+/// commands it knew then.
+type Turn = (usize, Option<usize>, Option<u32>);
+
+/// What a new node of so many comes to by a turn of a command.
+fn turn_of(alloc: Global, nodes: u8) -> Result<Turn, AllocError>
+    requires from { 1 ≤ nodes }
+    requires few { nodes ≤ 9 }
+{
     let mut member = Member::first(alloc, nodes)?;
-    let Ok(output) = member.turn(Number { value: 7 }) else {
-        return Err(AllocError);
-    };
-    if !matches!(
-        output.reply,
-        Reply::Started {
-            position: 1,
-            ballot: 17
-        }
-    ) {
-        return Err(AllocError);
-    }
-    let given = output.messages.len();
-    let (Ok(status), _) = member.handle(&Input::Status) else {
-        return Err(AllocError);
-    };
-    let Reply::Prefix(prefix) = status.reply else {
-        return Err(AllocError);
-    };
-    let opening = idle.calls();
-    Ok((
-        opening,
-        member.calls().saturating_sub(opening),
-        given,
-        prefix,
-    ))
+    let given = given_by(&mut member);
+    let prefix = prefix_of(&mut member);
+    Ok((member.calls(), given, prefix))
 }
 
 /// One append is four calls. A node alone knows its command after it; one of three has promised
@@ -49,40 +63,29 @@ fn turn_of(alloc: Global, nodes: u8) -> Result<(usize, usize, usize, u32), Alloc
 #[test]
 fn one_append(rt: HostRuntime) -> Result<(), Fail> {
     let alloc = rt.alloc();
-    let (opening, calls, given, prefix) = turn_of(alloc, 1)?;
-    assert_eq!(rt; (calls, given, prefix), (4, 0, 1));
-    let (again, calls, given, prefix) = turn_of(alloc, 3)?;
-    assert_eq!(rt; (calls, given, prefix), (4, 2, 0));
-    assert_eq!(rt; opening, again);
+    let calls = opening_of(alloc, 1)?.saturating_add(4);
+    assert_eq!(rt; turn_of(alloc, 1)?, (calls, Some(0), Some(1)));
+    let calls = opening_of(alloc, 3)?.saturating_add(4);
+    assert_eq!(rt; turn_of(alloc, 3)?, (calls, Some(2), Some(0)));
+    assert_eq!(rt; opening_of(alloc, 1)?, opening_of(alloc, 3)?);
     Ok(())
 }
 
-/// How many commands a node knows.
-fn prefix_of(member: &mut Member) -> Result<u32, AllocError> {
-    let (Ok(status), _) = member.handle(&Input::Status) else {
-        return Err(AllocError);
-    };
-    match status.reply {
-        Reply::Prefix(prefix) => Ok(prefix),
-        _ => Err(AllocError),
-    }
-}
-
-/// The calls of the first disk while a node of so many takes two commands in memory and keeps both;
-/// how many messages it gives, and how many commands it knows then.
-fn staged_of(alloc: Global, nodes: u8) -> Result<(usize, usize, u32), AllocError>
+/// What a new node of so many comes to by a command and a second input, which it takes in memory and
+/// then keeps.
+fn staged_of(alloc: Global, nodes: u8, second: &Input<Number, ()>) -> Result<Turn, AllocError>
     requires from { 1 ≤ nodes }
     requires few { nodes ≤ 9 }
+    requires fits { InputFits (λ (number : Number). number.value ∷ []) second.now }
 {
-    let idle = Member::first(alloc, nodes)?;
-    let member = Member::first(alloc, nodes)?;
     let first = Input::Submit(Number { value: 7 });
-    let second = Input::Submit(Number { value: 8 });
-    let Ok((mut member, given)) = member.stage_two(alloc, &first, &second) else {
-        return Err(AllocError);
-    };
-    let prefix = prefix_of(&mut member)?;
-    Ok((member.calls().saturating_sub(idle.calls()), given, prefix))
+    match Member::first(alloc, nodes)?.stage_two(alloc, &first, second) {
+        Ok((mut member, given)) => {
+            let prefix = prefix_of(&mut member);
+            Ok((member.calls(), Some(given), prefix))
+        }
+        Err(_) => Err(AllocError),
+    }
 }
 
 /// Two commands that are taken in memory are kept by one append. A node alone knows both then; one
@@ -90,20 +93,18 @@ fn staged_of(alloc: Global, nodes: u8) -> Result<(usize, usize, u32), AllocError
 #[test]
 fn one_append_of_two(rt: HostRuntime) -> Result<(), Fail> {
     let alloc = rt.alloc();
-    assert_eq!(rt; staged_of(alloc, 1)?, (4, 0, 2));
-    assert_eq!(rt; staged_of(alloc, 3)?, (4, 4, 0));
+    let second = Input::Submit(Number { value: 8 });
+    let calls = opening_of(alloc, 1)?.saturating_add(4);
+    assert_eq!(rt; staged_of(alloc, 1, &second)?, (calls, Some(0), Some(2)));
+    let calls = opening_of(alloc, 3)?.saturating_add(4);
+    assert_eq!(rt; staged_of(alloc, 3, &second)?, (calls, Some(4), Some(0)));
     Ok(())
 }
 
 /// What waits is kept before a compaction begins.
 #[test]
 fn kept_before_compaction(rt: HostRuntime) -> Result<(), Fail> {
-    let alloc = rt.alloc();
-    let member = Member::first(alloc, 1)?;
-    let command = Input::Submit(Number { value: 7 });
-    let Ok((mut member, _)) = member.stage_two(alloc, &command, &Input::Compact) else {
-        return Err(AllocError.into());
-    };
-    assert_eq!(rt; prefix_of(&mut member)?, 1);
+    let (_calls, _given, prefix) = staged_of(rt.alloc(), 1, &Input::Compact)?;
+    assert_eq!(rt; prefix, Some(1));
     Ok(())
 }

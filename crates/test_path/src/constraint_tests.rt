@@ -170,7 +170,7 @@ const ROWS: [(&[&[u8]], &[u8], bool, Result<(), NameFault>); 20] = [
 ];
 
 /// What is answered of a certificate below others, and below no initial subtrees.
-fn checked(
+fn answer_of(
     alloc: Global,
     above: &[&[u8]],
     cert: &[u8],
@@ -187,7 +187,7 @@ fn checked(
 fn names_against_certificates_above(rt: HostRuntime) {
     for &(above, cert, last, answer) in &ROWS {
         assert!(rt;
-            checked(rt.alloc(), above, cert, last) == Some(answer),
+            answer_of(rt.alloc(), above, cert, last) == Some(answer),
             "{above:?} {cert:?}"
         );
     }

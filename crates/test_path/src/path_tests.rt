@@ -3,8 +3,9 @@
 
 use std::alloc::Global;
 use ts_cert::Cert;
-use ts_der::Reader;
-use ts_path::{Anchor, Inputs, Reason, Verdict, validate};
+use ts_der::{OidRef, Reader};
+use ts_path::{Anchor, Inputs, Verdict, validate};
+use ts_reason::{Reason, read_reason};
 use ts_revoke::Crls;
 use ts_sig::{DigestCheck, TableCheck};
 use ts_time::Moment;
@@ -160,10 +161,15 @@ fn inherits_parameters(rt: HostRuntime) {
     assert!(rt; judge_three(rt.alloc(), OTHER_CA) == Some(None));
 }
 
-/// Whether a reason is printed so.
-fn is_printed(alloc: Global, reason: Reason<'_>, text: &str) -> Option<bool> {
+/// Whether a reason is printed so, and again once it was kept, written and read.
+fn is_printed(alloc: Global, reason: Reason<OidRef<'_>>, text: &str) -> Option<bool> {
     let printed = format!(in alloc; "{reason}").ok()?;
-    Some(printed.as_str() == text)
+    let mut octets = Vec::new(alloc);
+    reason.to_owned(alloc).ok()?.write(&mut octets).ok()?;
+    let (read, rest) = read_reason(alloc, &octets).ok()?;
+    let again = read.as_ref();
+    let printed_again = format!(in alloc; "{again}").ok()?;
+    Some(printed.as_str() == text && printed_again.as_str() == text && rest.is_empty())
 }
 
 /// Whether the reason that names a critical extension is printed so.
@@ -173,7 +179,7 @@ fn is_critical(alloc: Global, oid: &[u8], text: &str) -> Option<bool> {
 }
 
 /// The other reasons and their texts.
-const REASONS: [(Reason<'static>, &str); 17] = [
+const REASONS: [(Reason<OidRef<'static>>, &str); 17] = [
     (Reason::AnchorPurpose, "AnchorPurpose"),
     (Reason::Signature, "Signature"),
     (Reason::TooEarly, "TooEarly"),

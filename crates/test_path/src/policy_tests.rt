@@ -3,6 +3,7 @@
 
 use std::alloc::{AllocError, Global};
 use ts_cert::Cert;
+use ts_der::OidRef;
 use ts_policy::{Certificate, Mapping, Policies};
 
 /// A self-issued certificate with all fourteen extensions, made by openssl. It states 1.2.3 and
@@ -58,20 +59,20 @@ const ROWS: [(&str, &str, &str, &str); 21] = [
 /// Each of three policies is mapped to each.
 const ALL_TO_ALL: &str = "123/1>1,1>2,1>3,2>1,2>2,2>3,3>1,3>2,3>3";
 
-/// The octets of the policy that has this name in the rows.
-fn octets(name: &str) -> &'static [u8] {
+/// The policy that has this name in the rows.
+fn policy(name: &str) -> Option<OidRef<'static>> {
     for &(known, octets) in &NAMES {
         if known == name {
-            return octets;
+            return OidRef::from_content(octets);
         }
     }
-    b""
+    None
 }
 
 /// The name that a policy has in the rows.
-fn name(octets: &[u8]) -> &'static str {
+fn name(policy: OidRef<'_>) -> &'static str {
     for &(name, known) in &NAMES {
-        if known == octets {
+        if known == policy.content {
             return name;
         }
     }
@@ -79,11 +80,14 @@ fn name(octets: &[u8]) -> &'static str {
 }
 
 /// The policies that a text of a row names.
-fn labels(alloc: Global, names: &str) -> Result<Vec<&'static [u8]>, AllocError> {
+fn labels(alloc: Global, names: &str) -> Result<Vec<OidRef<'static>>, AllocError> {
     let mut labels = Vec::new(alloc);
     for name in ["3", "2", "1", "4", "5", "9", "*"] {
-        if names.contains(name) {
-            labels.push(octets(name))?;
+        if !names.contains(name) {
+            continue;
+        }
+        if let Some(label) = policy(name) {
+            labels.push(label)?;
         }
     }
     Ok(labels)
@@ -93,10 +97,13 @@ fn labels(alloc: Global, names: &str) -> Result<Vec<&'static [u8]>, AllocError> 
 fn mappings(alloc: Global, text: &str) -> Result<Vec<Mapping<'static>>, AllocError> {
     let mut mappings = Vec::new(alloc);
     for pair in text.split(',') {
-        if let Some((from, to)) = pair.split_once('>') {
+        let Some((from, to)) = pair.split_once('>') else {
+            continue;
+        };
+        if let (Some(issuer_domain), Some(subject_domain)) = (policy(from), policy(to)) {
             mappings.push(Mapping {
-                issuer_domain: octets(from),
-                subject_domain: octets(to),
+                issuer_domain,
+                subject_domain,
             })?;
         }
     }
@@ -131,14 +138,18 @@ fn chain(alloc: Global, text: &str) -> Result<Vec<Certificate<'static>>, AllocEr
 }
 
 /// The answer at the last certificate, where a policy is needed or not.
-fn accepted(alloc: Global, policies: &[&[u8]], needed: bool) -> Result<String, AllocError> {
+fn accepted_text(
+    alloc: Global,
+    policies: &[OidRef<'_>],
+    needed: bool,
+) -> Result<String, AllocError> {
     if needed && policies.is_empty() {
         return String::from_str(alloc, "FinalPolicy");
     }
     let mut text = String::from_str(alloc, "valid")?;
     for policy in policies {
         text.push_str(" ")?;
-        text.push_str(name(policy))?;
+        text.push_str(name(*policy))?;
     }
     Ok(text)
 }
@@ -171,7 +182,7 @@ fn ask(
         if i == n {
             let user = labels(alloc, user)?;
             let found = policies.finish(alloc, &user)?;
-            return accepted(alloc, &found, explicit <= 1);
+            return accepted_text(alloc, &found, explicit <= 1);
         }
         if maps_any {
             return format!(in alloc; "MapsAny {i}");

@@ -258,7 +258,7 @@ fn lets_the_entry_of_a_delta_decide(rt: HostRuntime) {
 
 /// The status in June under two CRLs, and how many signatures are checked for it. There is a delta
 /// CRL that is not used.
-fn counted<'x>(cert: &[u8], first: &'x [u8], second: &'x [u8]) -> Option<(Status, u32)> {
+fn status_and_count<'x>(cert: &[u8], first: &'x [u8], second: &'x [u8]) -> Option<(Status, u32)> {
     let cert = Cert::read(cert).ok()?;
     let lists = [Crl::read(first).ok()?, Crl::read(second).ok()?];
     let deltas = [Crl::read(D_1).ok()?];
@@ -292,7 +292,7 @@ const CHECKED: [(&[u8], &[u8], &[u8], Status, u32); 9] = [
 fn checks_each_signature_once(rt: HostRuntime) {
     for &(cert, first, second, wanted, asked) in &CHECKED {
         assert!(rt;
-            counted(cert, first, second) == Some((wanted, asked)),
+            status_and_count(cert, first, second) == Some((wanted, asked)),
             "{cert:?} {first:?} {second:?}"
         );
     }

@@ -4,7 +4,7 @@ use std::alloc::Global;
 use ts_cert::Cert;
 use ts_path::{Anchor, Inputs};
 use ts_revoke::Crls;
-use ts_search::{Answer, MAX_POOL, search};
+use ts_search::{MAX_POOL, SearchAnswer, search};
 use ts_sig::{DigestCheck, TableCheck};
 use ts_time::Moment;
 
@@ -50,11 +50,11 @@ enum Told {
 }
 
 /// What a search answered, without its policies.
-fn summary(answer: &Answer<'_>) -> Told {
+fn summary(answer: &SearchAnswer<'_>) -> Told {
     match answer {
-        Answer::Found { anchor, chain, .. } => Told::Found(*anchor, front(chain)),
-        Answer::NoPath => Told::NoPath,
-        Answer::SearchLimit => Told::SearchLimit,
+        SearchAnswer::Found { anchor, chain, .. } => Told::Found(*anchor, front(chain)),
+        SearchAnswer::NoPath => Told::NoPath,
+        SearchAnswer::SearchLimit => Told::SearchLimit,
     }
 }
 

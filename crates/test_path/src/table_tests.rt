@@ -188,7 +188,7 @@ fn read<'a>(alloc: Global, octets: &[&'a [u8]]) -> Option<Vec<Subtree<'a>>> {
 }
 
 /// What is answered of a certificate below initial subtrees.
-fn checked(
+fn answer_of(
     alloc: Global,
     permitted: &[&[u8]],
     excluded: &[&[u8]],
@@ -204,7 +204,7 @@ fn checked(
 fn names_among_many_subtrees(rt: HostRuntime) {
     for &(permitted, excluded, cert, answer) in &ROWS {
         assert!(rt;
-            checked(rt.alloc(), permitted, excluded, cert) == Some(answer),
+            answer_of(rt.alloc(), permitted, excluded, cert) == Some(answer),
             "{permitted:?} {excluded:?} {cert:?}"
         );
     }

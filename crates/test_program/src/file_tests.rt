@@ -4,7 +4,7 @@ use std::alloc::Global;
 use std::fs;
 use std::rt::Files;
 use std::test::Fail;
-use ts_client::{Fault, read_file};
+use ts_client::{TaskFault, read_file};
 use ts_record::Record;
 use ts_store::Command;
 use ts_synod::Fact;
@@ -15,7 +15,7 @@ const FOLDER: &str = "ts_tasks_test";
 const PATH: &str = "ts_tasks_test/node";
 
 /// Appends a fact to the record. Whether it was opened.
-fn append_round<R: Files + Eprint>(rt: &R, alloc: Global) -> Result<bool, Fault> {
+fn append_round<R: Files + Eprint>(rt: &R, alloc: Global) -> Result<bool, TaskFault> {
     let (a, b) = open_disks(rt, alloc, PATH)?;
     match Record::<_, Command>::open(alloc, a, b) {
         Ok(mut record) => {
@@ -27,11 +27,11 @@ fn append_round<R: Files + Eprint>(rt: &R, alloc: Global) -> Result<bool, Fault>
 }
 
 /// Whose record it is, and whether it has that fact alone. `None` where it is not opened.
-fn found<R: Files + Eprint>(
+fn owner_of<R: Files + Eprint>(
     rt: &R,
     alloc: Global,
     path: &str,
-) -> Result<Option<(u8, bool)>, Fault> {
+) -> Result<Option<(u8, bool)>, TaskFault> {
     let (a, b) = open_disks(rt, alloc, path)?;
     Ok(match Record::<_, Command>::open(alloc, a, b) {
         Ok(record) => {
@@ -47,16 +47,16 @@ fn a_record_lies_in_two_files(rt: HostRuntime) -> Result<(), Fail> {
     let alloc = rt.alloc();
     let _ = fs::remove_dir_all(&rt, FOLDER);
     fs::create_dir(&rt, FOLDER)?;
-    let is_missing = matches!(open_disks(&rt, alloc, PATH), Err(Fault::File));
+    let is_missing = matches!(open_disks(&rt, alloc, PATH), Err(TaskFault::File));
     // What is there is not written over.
     let made = (
         format_files(&rt, alloc, PATH, 2, 3, 0),
         format_files(&rt, alloc, PATH, 1, 3, 0),
     );
-    assert_eq!(rt; (is_missing, made), (true, (Ok(()), Err(Fault::File))));
+    assert_eq!(rt; (is_missing, made), (true, (Ok(()), Err(TaskFault::File))));
     let length = read_file(&rt, alloc, "ts_tasks_test/node.b")?.len();
     let appended = append_round(&rt, alloc)?;
-    let kept = found(&rt, alloc, PATH)?;
+    let kept = owner_of(&rt, alloc, PATH)?;
     assert_eq!(rt; (length, appended, kept), (26, true, Some((2, true))));
     fs::remove_dir_all(&rt, FOLDER)?;
     Ok(())
@@ -77,8 +77,8 @@ fn a_record_of_version_1_is_migrated(rt: HostRuntime) -> Result<(), Fail> {
         migrate_files(&rt, alloc, "ts_tasks_old/old", "ts_tasks_old/new"),
         migrate_files(&rt, alloc, "ts_tasks_old/old", "ts_tasks_old/new"),
     );
-    assert_eq!(rt; made, (Ok(1), Err(Fault::File)));
-    let kept = found(&rt, alloc, "ts_tasks_old/new")?;
+    assert_eq!(rt; made, (Ok(1), Err(TaskFault::File)));
+    let kept = owner_of(&rt, alloc, "ts_tasks_old/new")?;
     let old = read_file(&rt, alloc, "ts_tasks_old/old")?;
     assert_eq!(rt; (kept, old.as_slice()), (Some((2, true)), OLD.as_slice()));
     fs::remove_dir_all(&rt, "ts_tasks_old")?;
@@ -94,8 +94,8 @@ fn one_process_has_a_record(rt: HostRuntime) -> Result<(), Fail> {
     let held = RecordLock::of_record(&rt, alloc, path)?;
     let second = RecordLock::of_record(&rt, alloc, path);
     let made = format_files(&rt, alloc, path, 1, 1, 0);
-    assert!(rt; matches!(second, Err(Fault::Busy)));
-    assert_eq!(rt; made, Err(Fault::Busy));
+    assert!(rt; matches!(second, Err(TaskFault::Busy)));
+    assert_eq!(rt; made, Err(TaskFault::Busy));
     drop(held);
     assert!(rt; RecordLock::of_record(&rt, alloc, path).is_ok());
     fs::remove_file(&rt, path)?;

@@ -1,6 +1,6 @@
 //! What no clause says: the octets of the formats, streams that fail, and what is carried.
 
-ghost use Rattle.std.specs.Prelude.{◌≤◌, ◌<◌, All, IfOk, IfSome, length};
+ghost use Rattle.std.specs.Prelude.{◌≤◌, ◌<◌, All, IfOk, length};
 ghost use Rattle.ts_disk.specs.Memory.{state_of};
 ghost use Rattle.ts_node.specs.Ahead.{IsAhead};
 ghost use Rattle.ts_node.specs.Node.{IsSound};
@@ -103,29 +103,27 @@ const FAULTS: &[(&[u8], u8)] = &[
 ];
 
 /// A server of a node on new disks, of which the first lets so many calls pass.
-fn server(alloc: Global, me: u8, nodes: u8, passing: u64) -> Result<Option<Served>, AllocError>
+fn server(alloc: Global, me: u8, nodes: u8, passing: u64) -> Result<Served, AllocError>
     requires from { 1 ≤ me }
     requires to { me ≤ nodes }
     requires few { nodes ≤ 9 }
-    ensures sound { IfOk result (λ found. IfSome found
-        (λ server. IsSound state_of octets_of ⟦<Applies as Machine<Command>>⟧.commands
-        server.node)) }
-    ensures ahead { IfOk result (λ found. IfSome found
-        (λ server. IsAhead state_of octets_of ⟦<Applies as Machine<Command>>⟧.commands
-        server.node server.staged)) }
+    ensures sound { IfOk result (λ server. IsSound state_of octets_of
+        ⟦<Applies as Machine<Command>>⟧.commands server.node) }
+    ensures ahead { IfOk result (λ server. IsAhead state_of octets_of
+        ⟦<Applies as Machine<Command>>⟧.commands server.node server.staged) }
 {
     let mut a = MemDisk::new(alloc, Vec::new(alloc))?;
     let mut b = MemDisk::new(alloc, Vec::new(alloc))?;
     if Record::<MemDisk, Command>::format(&mut a, &mut b, me, nodes, 0).is_err() {
-        return Ok(None);
+        return Err(AllocError);
     }
     a.set_fuse(passing);
     match Node::open(alloc, a, b, Applies::new(alloc)) {
         Ok(node) => match Server::new(alloc, node) {
-            Ok(server) => Ok(Some(server)),
-            Err(_) => Ok(None),
+            Ok(server) => Ok(server),
+            Err(_) => Err(AllocError),
         },
-        Err(_) => Ok(None),
+        Err(_) => Err(AllocError),
     }
 }
 
@@ -187,14 +185,29 @@ fn rows_hold(
     Ok(true)
 }
 
+/// Whether each stream in turn is answered so by node 1 of 1. A server is let go in one place of a
+/// function, since each such place is proved.
+fn are_answered(alloc: Global, rows: &[(&[u8], &[u8])]) -> Result<bool, AllocError> {
+    let mut server = server(alloc, 1, 1, u64::MAX)?;
+    rows_hold(alloc, &mut server, rows)
+}
+
 #[test]
 fn streams_are_answered(rt: HostRuntime) -> Result<(), Fail> {
-    let alloc = rt.alloc();
-    let Some(mut server) = server(alloc, 1, 1, u64::MAX)? else {
-        return Err(Fail::from(AllocError));
-    };
-    assert!(rt; rows_hold(alloc, &mut server, ROWS)?);
+    assert!(rt; are_answered(rt.alloc(), ROWS)?);
     Ok(())
+}
+
+/// What a server answers to a stream, and the fault that ends it.
+fn end_of(
+    alloc: Global,
+    server: &mut Served,
+    stream: &[u8],
+) -> Result<(Vec<u8>, Option<ServeFault>), AllocError>
+    requires { IsSound state_of octets_of ⟦<Applies as Machine<Command>>⟧.commands server.old.node }
+{
+    let (said, end) = answers(alloc, server, stream)?;
+    Ok((said, end.err()))
 }
 
 /// How a stream ends that begins with Status.
@@ -204,13 +217,8 @@ fn end_behind_status(
 ) -> Result<(Vec<u8>, Option<ServeFault>), AllocError> {
     let mut whole = Vec::from_slice(alloc, STATUS)?;
     whole.extend_from_slice(stream)?;
-    match server(alloc, 1, 1, u64::MAX)? {
-        Some(mut server) => {
-            let (said, end) = answers(alloc, &mut server, &whole)?;
-            Ok((said, end.err()))
-        }
-        None => Err(AllocError),
-    }
+    let mut server = server(alloc, 1, 1, u64::MAX)?;
+    end_of(alloc, &mut server, &whole)
 }
 
 #[test]
@@ -264,6 +272,16 @@ impl Read for TwoPieces<'_> {
     }
 }
 
+/// Serves what a reader gives by node 1 of 1, and answers the fault that ends it.
+fn fault_at_end<R: Read, W: Write>(
+    alloc: Global,
+    reader: &mut R,
+    writer: &mut W,
+) -> Result<Option<ServeFault>, AllocError> {
+    let mut server = server(alloc, 1, 1, u64::MAX)?;
+    Ok(serve(&mut server, reader, writer).err())
+}
+
 /// What Submit and then Take are answered where the two come in two pieces, of which the first has
 /// so many octets.
 fn in_two_pieces(alloc: Global, cut: usize) -> Result<Option<Vec<u8>>, AllocError> {
@@ -272,18 +290,12 @@ fn in_two_pieces(alloc: Global, cut: usize) -> Result<Option<Vec<u8>>, AllocErro
     let (Some(first), Some(second)) = (stream.get(..cut), stream.get(cut..)) else {
         return Ok(None);
     };
-    let mut reader = TwoPieces { first, second };
     let mut writer = Vec::new(alloc);
-    match server(alloc, 1, 1, u64::MAX)? {
-        Some(mut server) => {
-            let end = serve(&mut server, &mut reader, &mut writer);
-            if was_refused(&writer, end) {
-                return Err(AllocError);
-            }
-            Ok(end.is_ok().then_some(writer))
-        }
-        None => Err(AllocError),
+    let end = fault_at_end(alloc, &mut TwoPieces { first, second }, &mut writer)?;
+    if was_refused(&writer, end.map_or(Ok(()), Err)) {
+        return Err(AllocError);
     }
+    Ok(end.is_none().then_some(writer))
 }
 
 #[test]
@@ -350,7 +362,7 @@ impl Read for Failing<'_> {
 
 /// What a writer with so much room has after Submit and Take, and how that ends; where so many
 /// octets are read before a read fails.
-fn narrowed(
+fn served_with_room(
     alloc: Global,
     room: usize,
     octets: &[u8],
@@ -364,18 +376,13 @@ fn narrowed(
         octets,
         is_interrupted: false,
     };
-    match server(alloc, 1, 1, u64::MAX)? {
-        Some(mut server) => {
-            let end = serve(&mut server, &mut reader, &mut writer).err();
-            let Narrow { taken, .. } = writer;
-            let was_full = end == Some(ServeFault::Write) && taken.len() >= room;
-            if !was_full && was_refused(&taken, end.map_or(Ok(()), Err)) {
-                return Err(AllocError);
-            }
-            Ok((taken, end))
-        }
-        None => Err(AllocError),
+    let end = fault_at_end(alloc, &mut reader, &mut writer)?;
+    let Narrow { taken, .. } = writer;
+    let was_full = end == Some(ServeFault::Write) && taken.len() >= room;
+    if !was_full && was_refused(&taken, end.map_or(Ok(()), Err)) {
+        return Err(AllocError);
     }
+    Ok((taken, end))
 }
 
 #[test]
@@ -383,16 +390,16 @@ fn writers_and_readers_fail_at_each_octet(rt: HostRuntime) -> Result<(), Fail> {
     let alloc = rt.alloc();
     let mut stream = Vec::from_slice(alloc, SUBMIT)?;
     stream.extend_from_slice(TAKE)?;
-    let (all, end) = narrowed(alloc, usize::MAX, &stream)?;
+    let (all, end) = served_with_room(alloc, usize::MAX, &stream)?;
     assert_eq!(rt; (all.len(), end), (48, Some(ServeFault::Read)));
     assert!(rt; all.starts_with(STARTED));
     for room in 0..all.len() {
-        let (said, end) = narrowed(alloc, room, &stream)?;
+        let (said, end) = served_with_room(alloc, room, &stream)?;
         assert_eq!(rt; end, Some(ServeFault::Write));
         assert_eq!(rt; said.as_slice(), &all[..room]);
     }
     for cut in 0..stream.len() {
-        let (said, end) = narrowed(alloc, usize::MAX, &stream[..cut])?;
+        let (said, end) = served_with_room(alloc, usize::MAX, &stream[..cut])?;
         assert_eq!(rt; end, Some(ServeFault::Read));
         assert_eq!(rt; said.len(), if cut < SUBMIT.len() { 0 } else { 18 });
     }
@@ -436,13 +443,8 @@ impl Write for Counts {
 /// How many octets are answered of an endless stream, and how that ends.
 fn within_limit(alloc: Global) -> Result<(u64, Option<ServeFault>), AllocError> {
     let mut writer = Counts { octets: 0 };
-    match server(alloc, 1, 1, u64::MAX)? {
-        Some(mut server) => {
-            let end = serve(&mut server, &mut Endless { at: 0 }, &mut writer).err();
-            Ok((writer.octets, end))
-        }
-        None => Err(AllocError),
-    }
+    let end = fault_at_end(alloc, &mut Endless { at: 0 }, &mut writer)?;
+    Ok((writer.octets, end))
 }
 
 #[test]
@@ -456,26 +458,31 @@ fn reads_are_limited(rt: HostRuntime) -> Result<(), Fail> {
     Ok(())
 }
 
-/// Whether a node whose disk fails says so, and then that it is broken. An error where memory was
-/// refused before that.
-fn is_failure_answered(alloc: Global) -> Result<bool, AllocError> {
-    let Some(mut server) = server(alloc, 1, 1, 2)? else {
-        return Err(AllocError);
-    };
-    let (said, end) = answers_of(alloc, &mut server, SUBMIT);
-    let (again, end_again) = answers_of(alloc, &mut server, STATUS);
-    let has_failed = server.has_failed();
-    let _node = server.close();
+/// Whether a node whose disk fails says so, and then that it is broken, by its two answers and how
+/// they end. An error where memory was refused before that.
+fn is_failure(
+    first: &(Vec<u8>, Result<(), ServeFault>),
+    second: &(Vec<u8>, Result<(), ServeFault>),
+) -> Result<bool, AllocError> {
+    let (said, end) = (first.0.as_slice(), first.1);
+    let (again, end_again) = (second.0.as_slice(), second.1);
     if said.ends_with(b"\x25\x01") || was_refused(b"", end) || was_refused(b"", end_again) {
         return Err(AllocError);
     }
-    Ok(
-        said.as_slice() == b"\x00\x00\x00\x03\x02\x25\x02".as_slice()
-            && again.as_slice() == b"\x00\x00\x00\x03\x02\x25\x03".as_slice()
-            && has_failed
-            && end == Ok(())
-            && end_again == Ok(()),
-    )
+    let is_said = said == b"\x00\x00\x00\x03\x02\x25\x02".as_slice();
+    let is_said_again = again == b"\x00\x00\x00\x03\x02\x25\x03".as_slice();
+    Ok(is_said && is_said_again && end == Ok(()) && end_again == Ok(()))
+}
+
+/// Whether a node whose disk fails says so, and then that it is broken, and its server that it has
+/// failed.
+fn is_failure_answered(alloc: Global) -> Result<bool, AllocError> {
+    let mut server = server(alloc, 1, 1, 2)?;
+    let first = answers_of(alloc, &mut server, SUBMIT);
+    let second = answers_of(alloc, &mut server, STATUS);
+    let has_failed = server.has_failed();
+    let _node = server.close();
+    is_failure(&first, &second).map(|is_said| is_said && has_failed)
 }
 
 #[test]
@@ -492,14 +499,11 @@ fn peer(alloc: Global, me: u8, nodes: u8) -> Result<ServerPeer<MemDisk, Applies>
     ensures { IfOk result (λ peer. IsSound state_of octets_of
         ⟦<Applies as Machine<Command>>⟧.commands peer.server.node) }
 {
-    match server(alloc, me, nodes, u64::MAX)? {
-        Some(server) => Ok(ServerPeer::new(alloc, server)),
-        None => Err(AllocError),
-    }
+    Ok(ServerPeer::new(alloc, server(alloc, me, nodes, u64::MAX)?))
 }
 
 /// What the peer at a place answers. An error where memory was refused, without which it fails not.
-fn asked<P: Peer>(peers: &mut [P], place: usize, stream: &[u8]) -> Result<Vec<u8>, AllocError>
+fn answer_of<P: Peer>(peers: &mut [P], place: usize, stream: &[u8]) -> Result<Vec<u8>, AllocError>
     requires ready { All P.is_ready peers.old }
     requires within { place < length peers.old }
     ensures { All P.is_ready peers.new }
@@ -512,7 +516,7 @@ fn asked<P: Peer>(peers: &mut [P], place: usize, stream: &[u8]) -> Result<Vec<u8
 
 /// How many messages are delivered in so many rounds. An error where they are fewer than wanted, as
 /// where memory is refused to an exchange.
-fn carried<P: Peer>(
+fn count_carried<P: Peer>(
     alloc: Global,
     peers: &mut [P],
     rounds: u32,
@@ -536,7 +540,7 @@ fn is_settled<P: Peer>(peers: &mut [P], place: usize) -> Result<bool, AllocError
     requires within { place < length peers.old }
     ensures { All P.is_ready peers.new }
 {
-    let said = asked(peers, place, OUTCOME)?;
+    let said = answer_of(peers, place, OUTCOME)?;
     if said.as_slice() == UNKNOWN {
         Err(AllocError)
     } else {
@@ -544,37 +548,81 @@ fn is_settled<P: Peer>(peers: &mut [P], place: usize) -> Result<bool, AllocError
     }
 }
 
+/// Whether a command is settled by one node in four rounds, and not in three.
+fn settles_alone<P: Peer>(alloc: Global, peers: &mut [P; 1]) -> Result<bool, AllocError>
+    requires { All P.is_ready peers.old }
+{
+    let is_started = answer_of(peers, 0, SUBMIT)?.as_slice() == STARTED;
+    let count = count_carried(alloc, peers, 3, 3)?;
+    let is_unknown = answer_of(peers, 0, OUTCOME)?.as_slice() == UNKNOWN;
+    let last = count_carried(alloc, peers, 1, 1)?;
+    Ok(is_started && count == 3 && is_unknown && last == 1 && is_settled(peers, 0)?)
+}
+
+/// Whether a new node alone settles a command so.
+fn one_settles(alloc: Global) -> Result<bool, AllocError> {
+    settles_alone(alloc, &mut [peer(alloc, 1, 1)?])
+}
+
 #[test]
 fn one_node_settles_in_four_rounds(rt: HostRuntime) -> Result<(), Fail> {
-    let alloc = rt.alloc();
-    let mut peers = [peer(alloc, 1, 1)?];
-    assert_eq!(rt; asked(&mut peers, 0, SUBMIT)?.as_slice(), STARTED);
-    assert_eq!(rt; carried(alloc, &mut peers, 3, 3)?, 3);
-    assert_eq!(rt; asked(&mut peers, 0, OUTCOME)?.as_slice(), UNKNOWN);
-    assert_eq!(rt; carried(alloc, &mut peers, 1, 1)?, 1);
-    assert!(rt; is_settled(&mut peers, 0)?);
+    assert!(rt; one_settles(rt.alloc())?);
     Ok(())
+}
+
+/// Whether a command that the first of three nodes is given is settled by the two others.
+fn settle<P: Peer>(alloc: Global, peers: &mut [P; 3]) -> Result<bool, AllocError>
+    requires { All P.is_ready peers.old }
+{
+    let is_started = answer_of(peers, 0, SUBMIT)?.as_slice() == STARTED;
+    // Three of Prepare, three of Promise, three of Accept, and three of Accepted from each.
+    let count = count_carried(alloc, peers, 5, 18)?;
+    let is_settled_by_second = is_settled(peers, 1)?;
+    Ok(is_started && count == 18 && is_settled_by_second && is_settled(peers, 2)?)
+}
+
+/// Whether three new nodes settle a command so.
+fn three_settle(alloc: Global) -> Result<bool, AllocError> {
+    let mut peers = [peer(alloc, 1, 3)?, peer(alloc, 2, 3)?, peer(alloc, 3, 3)?];
+    settle(alloc, &mut peers)
 }
 
 #[test]
 fn three_nodes_settle(rt: HostRuntime) -> Result<(), Fail> {
-    let alloc = rt.alloc();
-    let mut peers = [peer(alloc, 1, 3)?, peer(alloc, 2, 3)?, peer(alloc, 3, 3)?];
-    assert_eq!(rt; asked(&mut peers, 0, SUBMIT)?.as_slice(), STARTED);
-    // Three of Prepare, three of Promise, three of Accept, and three of Accepted from each.
-    assert_eq!(rt; carried(alloc, &mut peers, 5, 18)?, 18);
-    assert!(rt; is_settled(&mut peers, 1)? && is_settled(&mut peers, 2)?);
+    assert!(rt; three_settle(rt.alloc())?);
     Ok(())
+}
+
+/// How many messages of one node of three are delivered behind a command; `None` where that is not
+/// taken.
+fn delivered_alone<P: Peer>(alloc: Global, peers: &mut [P; 1]) -> Result<Option<u64>, AllocError>
+    requires { All P.is_ready peers.old }
+{
+    if answer_of(peers, 0, SUBMIT)?.as_slice() != STARTED {
+        return Ok(None);
+    }
+    // Prepare and Promise of node 1 with itself; no majority answers.
+    Ok(Some(count_carried(alloc, peers, 5, 2)?))
+}
+
+/// How many are of a new node.
+fn one_of_three_delivers(alloc: Global) -> Result<Option<u64>, AllocError> {
+    delivered_alone(alloc, &mut [peer(alloc, 1, 3)?])
 }
 
 #[test]
 fn a_message_without_a_peer_does_not_count(rt: HostRuntime) -> Result<(), Fail> {
-    let alloc = rt.alloc();
-    let mut peers = [peer(alloc, 1, 3)?];
-    assert_eq!(rt; asked(&mut peers, 0, SUBMIT)?.as_slice(), STARTED);
-    // Prepare and Promise of node 1 with itself; no majority answers.
-    assert_eq!(rt; carried(alloc, &mut peers, 5, 2)?, 2);
+    assert_eq!(rt; one_of_three_delivers(rt.alloc())?, Some(2));
     Ok(())
+}
+
+/// How a server ends that serves one connection.
+fn listen_once(
+    alloc: Global,
+    listener: &TcpListener,
+) -> Result<Result<(), ServeFault>, AllocError> {
+    let mut server = peer(alloc, 1, 1)?.close();
+    Ok(listen(&mut server, listener, 1))
 }
 
 #[test]
@@ -589,8 +637,7 @@ fn a_connection_is_served(rt: HostRuntime) -> Result<(), Fail> {
     set_up(&stream)?;
     write_octets(&mut stream, STATUS)?;
     stream.shutdown(Shutdown::Write)?;
-    let mut server = peer(alloc, 1, 1)?.close();
-    assert_eq!(rt; listen(&mut server, &listener, 1), Ok(()));
+    assert_eq!(rt; listen_once(alloc, &listener)?, Ok(()));
     let mut answer = Vec::new(alloc);
     let end = stream.read_to_end(&mut answer);
     // A connection that memory is refused to ends without an answer, or is reset.
@@ -611,7 +658,7 @@ fn a_connection_that_is_not_made_is_write(rt: HostRuntime) -> Result<(), Fail> {
 }
 
 /// What a server says to a frame of these octets that is staged.
-fn staged(alloc: Global, server: &mut Served, octets: &[u8]) -> Result<Vec<u8>, AllocError>
+fn staged_answer(alloc: Global, server: &mut Served, octets: &[u8]) -> Result<Vec<u8>, AllocError>
     requires { IsAhead state_of octets_of ⟦<Applies as Machine<Command>>⟧.commands
         server.old.node server.old.staged }
     ensures { IsAhead state_of octets_of ⟦<Applies as Machine<Command>>⟧.commands
@@ -625,47 +672,74 @@ fn staged(alloc: Global, server: &mut Served, octets: &[u8]) -> Result<Vec<u8>, 
     server.stage_frame(frame).map_err(|_| AllocError)
 }
 
-/// A server of one node that stages a command knows its outcome in the next turn, before anything is
-/// kept, and has no message to give.
+/// Whether a server says this to a frame of these octets that is staged.
+fn says(
+    alloc: Global,
+    server: &mut Served,
+    octets: &[u8],
+    expected: &[u8],
+) -> Result<bool, AllocError>
+    requires { IsAhead state_of octets_of ⟦<Applies as Machine<Command>>⟧.commands
+        server.old.node server.old.staged }
+    ensures { IsAhead state_of octets_of ⟦<Applies as Machine<Command>>⟧.commands
+        server.new.node server.new.staged }
+{
+    Ok(staged_answer(alloc, server, octets)?.as_slice() == expected)
+}
+
+/// Whether a server of one node that stages a command knows its outcome in the next turn, before
+/// anything is kept, and has no message to give.
+fn knows_staged(alloc: Global, server: &mut Served) -> Result<bool, AllocError>
+    requires { IsAhead state_of octets_of ⟦<Applies as Machine<Command>>⟧.commands
+        server.old.node server.old.staged }
+{
+    let is_started = says(alloc, server, SUBMIT, STARTED)?;
+    let is_settled = says(alloc, server, OUTCOME, SETTLED)?;
+    let none = b"\x00\x00\x00\x06\x02\x20\x00\x00\x00\x00";
+    let is_none = says(alloc, server, TAKE, none)?;
+    Ok(server.keep_staged() && is_started && is_settled && is_none)
+}
+
+/// Whether a server whose disk fails as what is staged is kept says so, and takes nothing more.
+fn loses_staged(alloc: Global, server: &mut Served) -> Result<bool, AllocError>
+    requires { IsAhead state_of octets_of ⟦<Applies as Machine<Command>>⟧.commands
+        server.old.node server.old.staged }
+{
+    let is_started = says(alloc, server, SUBMIT, STARTED)?;
+    let is_kept = server.keep_staged();
+    let has_failed = server.has_failed();
+    let broken = b"\x00\x00\x00\x03\x02\x25\x03";
+    Ok(says(alloc, server, STATUS, broken)? && is_started && !is_kept && has_failed)
+}
+
+/// Whether a new server knows what it stages.
+fn is_staged_known(alloc: Global) -> Result<bool, AllocError> {
+    let mut server = server(alloc, 1, 1, u64::MAX)?;
+    knows_staged(alloc, &mut server)
+}
+
 #[test]
 fn what_is_staged_is_known(rt: HostRuntime) -> Result<(), Fail> {
-    let alloc = rt.alloc();
-    let Some(mut server) = server(alloc, 1, 1, u64::MAX)? else {
-        return Err(Fail::from(AllocError));
-    };
-    assert_eq!(rt; staged(alloc, &mut server, SUBMIT)?.as_slice(), STARTED);
-    assert_eq!(rt; staged(alloc, &mut server, OUTCOME)?.as_slice(), SETTLED);
-    let none = b"\x00\x00\x00\x06\x02\x20\x00\x00\x00\x00";
-    assert_eq!(rt;
-        staged(alloc, &mut server, TAKE)?.as_slice(),
-        none.as_slice()
-    );
-    assert!(rt; server.keep_staged());
+    assert!(rt; is_staged_known(rt.alloc())?);
     Ok(())
 }
 
-/// Where the disk fails as what is staged is kept the server says so, and takes nothing more.
+/// Whether a new server whose disk fails loses what it stages.
+fn is_staged_lost(alloc: Global) -> Result<bool, AllocError> {
+    let mut server = server(alloc, 1, 1, 2)?;
+    loses_staged(alloc, &mut server)
+}
+
 #[test]
 fn what_is_staged_can_be_lost(rt: HostRuntime) -> Result<(), Fail> {
-    let alloc = rt.alloc();
-    let Some(mut server) = server(alloc, 1, 1, 2)? else {
-        return Err(Fail::from(AllocError));
-    };
-    assert_eq!(rt; staged(alloc, &mut server, SUBMIT)?.as_slice(), STARTED);
-    assert!(rt; !server.keep_staged() && server.has_failed());
-    let broken = b"\x00\x00\x00\x03\x02\x25\x03";
-    assert_eq!(rt;
-        staged(alloc, &mut server, STATUS)?.as_slice(),
-        broken.as_slice()
-    );
+    assert!(rt; is_staged_lost(rt.alloc())?);
     Ok(())
 }
 
 /// Whether single frames are answered by node 2 of 3, and what is no request is not.
-fn are_frames_answered(alloc: Global) -> Result<bool, AllocError> {
-    let Some(mut server) = server(alloc, 2, 3, u64::MAX)? else {
-        return Err(AllocError);
-    };
+fn answers_frames(alloc: Global, server: &mut Served) -> Result<bool, AllocError>
+    requires { IsSound state_of octets_of ⟦<Applies as Machine<Command>>⟧.commands server.old.node }
+{
     let identity = server.identity();
     let is_second = (identity.node, identity.nodes, identity.group) == (2, 3, 0);
     let Ok(said) = server.answer_frame(Frame::Status) else {
@@ -693,6 +767,12 @@ fn are_frames_answered(alloc: Global) -> Result<bool, AllocError> {
     )
 }
 
+/// Whether a new server answers them so.
+fn are_frames_answered(alloc: Global) -> Result<bool, AllocError> {
+    let mut server = server(alloc, 2, 3, u64::MAX)?;
+    answers_frames(alloc, &mut server)
+}
+
 #[test]
 fn frames_are_answered_one_by_one(rt: HostRuntime) -> Result<(), Fail> {
     assert!(rt; are_frames_answered(rt.alloc())?);
@@ -708,9 +788,7 @@ fn given_after(alloc: Global, commands: u8) -> Result<(usize, Option<[u8; 4]>), 
         stream.extend_from_slice(&[command, 6])?;
     }
     stream.extend_from_slice(TAKE)?;
-    let Some(mut server) = server(alloc, 1, 3, u64::MAX)? else {
-        return Err(AllocError);
-    };
+    let mut server = server(alloc, 1, 3, u64::MAX)?;
     let (said, _end) = answers(alloc, &mut server, &stream)?;
     let started = usize::from(commands) * STARTED.len();
     Ok((

@@ -32,7 +32,7 @@ impl Machine<Command> for Applies {
     ghost use Rattle.std.specs.Prelude.{◌≡◌, length};
     ghost use Rattle.ts_store.specs.Commands.{id_of};
     ghost use Rattle.ts_store.specs.declared.outcome.Outcome.TheVariants.{Applied};
-    ghost use Rattle.ts_question.specs.Reply.{answered};
+    ghost use Rattle.ts_question.specs.Reply.{numbered_reply};
     ghost use Rattle.ts_question.specs.declared.reply.Reply.TheVariants.{NoAnchor};
 
     type Outcome = Outcome;
@@ -50,7 +50,7 @@ impl Machine<Command> for Applies {
     ghost basis = { λ machine. tt };
 
     ghost is_answer = { λ basis commands question answer. answer
-        ≡ answered (length commands) NoAnchor };
+        ≡ numbered_reply (length commands) NoAnchor };
 
     ghost commands = { λ machine. machine.commands.items };
 

@@ -177,7 +177,7 @@ fn is_written(alloc: Global, frame: Frame, octets: &[u8]) -> bool {
 }
 
 /// A frame that says that a command was applied at position 1.
-fn settled() -> Frame {
+fn settled_frame() -> Frame {
     Frame::Settled {
         position: 1,
         outcome: Outcome::Applied,
@@ -208,7 +208,7 @@ fn frames_are_written(rt: HostRuntime) {
         ),
         is_written(
             alloc,
-            settled(),
+            settled_frame(),
             b"\x00\x00\x00\x07\x02\x22\x00\x00\x00\x01\x00",
         ),
         is_written(

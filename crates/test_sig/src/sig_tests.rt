@@ -52,24 +52,32 @@ fn takes_the_one_digest(rt: HostRuntime) -> Result<(), Fail> {
     Ok(())
 }
 
-#[test]
-fn takes_what_is_listed(rt: HostRuntime) -> Result<(), Fail> {
+/// What a table answers to a signature with parameters and without, and to another one with them.
+fn answers(table: &TableCheck) -> (bool, bool, bool) {
     let null: [u8; 2] = [5, 0];
+    (
+        answer(table, &key(Some(&null)), &[1, 2, 3]),
+        answer(table, &key(None), &[1, 2, 3]),
+        answer(table, &key(Some(&null)), &[1, 2, 4]),
+    )
+}
+
+/// What the table of a text answers so.
+fn answers_of(alloc: Global, text: &[u8]) -> Result<(bool, bool, bool), TableFault> {
+    let table = TableCheck::read(alloc, text)?;
+    Ok(answers(&table))
+}
+
+#[test]
+fn takes_what_is_listed(rt: HostRuntime) {
     for (text, with, without) in [
         (LISTED, true, false),
         (WITHOUT, false, true),
         ("", false, false),
     ] {
-        let table = TableCheck::read(rt.alloc(), text.as_bytes())?;
-        assert_eq!(rt;
-            answer(&table, &key(Some(&null)), &[1, 2, 3]),
-            with,
-            "{text}"
-        );
-        assert_eq!(rt; answer(&table, &key(None), &[1, 2, 3]), without, "{text}");
-        assert!(rt; !answer(&table, &key(Some(&null)), &[1, 2, 4]), "{text}");
+        let found = answers_of(rt.alloc(), text.as_bytes());
+        assert_eq!(rt; found, Ok((with, without, false)), "{text}");
     }
-    Ok(())
 }
 
 /// How many digests a text has, or why it is refused.
@@ -78,57 +86,51 @@ fn count(alloc: Global, text: &[u8]) -> Result<usize, TableFault> {
     Ok(table.len())
 }
 
+/// The parts of a text, and how many digests it has or why it is refused.
+const TEXTS: [(&str, &str, &str, &str, Result<usize, TableFault>); 11] = [
+    ("", "", "", "", Ok(0)),
+    (ABC, "\n", "", "", Ok(1)),
+    (ABC, "\n", ABC, "\n", Ok(1)),
+    (ABC, "\n", LISTED, "", Ok(2)),
+    ("BA", "", "", "", Err(TableFault::TableLine(1))),
+    (ABC, "", "", "", Err(TableFault::TableLine(1))),
+    (SHORT, "\n", "", "", Err(TableFault::TableLine(1))),
+    (ABC, "0\n", "", "", Err(TableFault::TableLine(1))),
+    (ABC, "\r\n", "", "", Err(TableFault::TableLine(1))),
+    (LISTED, ABC, "\n\n", LISTED, Err(TableFault::TableLine(3))),
+    (LISTED, UPPER, "\n", "", Err(TableFault::TableLine(2))),
+];
+
 #[test]
 fn reads_lines_of_one_form(rt: HostRuntime) -> Result<(), Fail> {
-    for (text, want) in [
-        (format!(in rt.alloc(); "")?, Ok(0)),
-        (format!(in rt.alloc(); "{ABC}\n")?, Ok(1)),
-        (format!(in rt.alloc(); "{ABC}\n{ABC}\n")?, Ok(1)),
-        (format!(in rt.alloc(); "{ABC}\n{LISTED}")?, Ok(2)),
-        (format!(in rt.alloc(); "BA")?, Err(TableFault::TableLine(1))),
-        (
-            format!(in rt.alloc(); "{ABC}")?,
-            Err(TableFault::TableLine(1)),
-        ),
-        (
-            format!(in rt.alloc(); "{SHORT}\n")?,
-            Err(TableFault::TableLine(1)),
-        ),
-        (
-            format!(in rt.alloc(); "{ABC}0\n")?,
-            Err(TableFault::TableLine(1)),
-        ),
-        (
-            format!(in rt.alloc(); "{ABC}\r\n")?,
-            Err(TableFault::TableLine(1)),
-        ),
-        (
-            format!(in rt.alloc(); "{LISTED}{ABC}\n\n{LISTED}")?,
-            Err(TableFault::TableLine(3)),
-        ),
-        (
-            format!(in rt.alloc(); "{LISTED}{UPPER}\n")?,
-            Err(TableFault::TableLine(2)),
-        ),
-    ] {
+    for (first, second, third, fourth, want) in TEXTS {
+        let text = format!(in rt.alloc(); "{first}{second}{third}{fourth}")?;
         assert_eq!(rt; count(rt.alloc(), text.as_bytes()), want, "{text}");
     }
     Ok(())
 }
 
-#[test]
-fn reads_a_thousand_lines(rt: HostRuntime) -> Result<(), Fail> {
-    let mut text = String::new(rt.alloc());
+/// A text of 999 lines that are not looked for, and one that is.
+fn thousand_lines(alloc: Global) -> Result<String, Fail> {
+    let mut text = String::new(alloc);
     for number in 0..999 {
-        text.push_str(format!(in rt.alloc(); "{number:064x}\n")?.as_str())?;
+        text.push_str(format!(in alloc; "{number:064x}\n")?.as_str())?;
     }
     text.push_str(LISTED)?;
-    let table = TableCheck::read(rt.alloc(), text.as_bytes())?;
-    let null: [u8; 2] = [5, 0];
-    assert_eq!(rt; table.len(), 1000);
-    assert!(rt; !table.is_empty());
-    assert!(rt; answer(&table, &key(Some(&null)), &[1, 2, 3]));
-    assert!(rt; !answer(&table, &key(None), &[1, 2, 3]));
+    Ok(text)
+}
+
+/// How many digests a text has, whether it has none, and what its table answers.
+fn table_of(alloc: Global, text: &str) -> Result<(usize, bool, (bool, bool, bool)), TableFault> {
+    let table = TableCheck::read(alloc, text.as_bytes())?;
+    Ok((table.len(), table.is_empty(), answers(&table)))
+}
+
+#[test]
+fn reads_a_thousand_lines(rt: HostRuntime) -> Result<(), Fail> {
+    let mut text = thousand_lines(rt.alloc())?;
+    let found = table_of(rt.alloc(), text.as_str());
+    assert_eq!(rt; found, Ok((1000, false, (true, false, false))));
     text.push_str("x")?;
     assert_eq!(rt;
         count(rt.alloc(), text.as_bytes()),

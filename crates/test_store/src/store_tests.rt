@@ -3,7 +3,7 @@
 use std::alloc::Global;
 use std::test::Fail;
 use ts_octets::Octets;
-use ts_store::{Command, First, Outcome, Refusal, Store};
+use ts_store::{Command, FirstCommand, Outcome, Refusal, Store};
 
 /// Serial number 2, issuer CN=R, subject CN=L.
 const L: &[u8] =
@@ -53,7 +53,7 @@ fn a_repeated_id_names_the_first_position(rt: HostRuntime) -> Result<(), Fail> {
     assert!(rt; store.apply(2, &drop)? == Outcome::Refused(Refusal::NoCrl));
     assert!(rt; store.apply(3, &noop)? == Outcome::Repeated(1));
     assert!(rt; store.apply(4, &drop)? == Outcome::Repeated(2));
-    let first = First {
+    let first = FirstCommand {
         position: 2,
         outcome: Outcome::Refused(Refusal::NoCrl),
     };

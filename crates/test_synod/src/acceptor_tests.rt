@@ -2,7 +2,7 @@
 
 use std::alloc::{AllocError, Global};
 use std::test::Fail;
-use ts_acceptor::{Acceptor, Step};
+use ts_acceptor::{Acceptor, AcceptorEffect};
 use ts_synod::{Body, Command, Fact, ballot_of};
 
 #[derive(Drop)]
@@ -18,7 +18,7 @@ impl Command for Number {
 
 /// The kind of a step's last message with the ballot and the command that it carries, and the
 /// numbers of messages and facts.
-fn shape_of(step: &Step<Number>) -> (u8, u64, u32, usize, usize) {
+fn shape_of(step: &AcceptorEffect<Number>) -> (u8, u64, u32, usize, usize) {
     let (kind, ballot, value) = match step.messages.last() {
         None => (0, 0, 0),
         Some(message) => match &message.body {

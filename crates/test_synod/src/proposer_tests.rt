@@ -2,7 +2,7 @@
 
 use std::alloc::{AllocError, Global};
 use std::test::Fail;
-use ts_proposer::{ProposeFault, Proposer, Step};
+use ts_proposer::{ProposeFault, Proposer, ProposerEffect};
 use ts_synod::{Body, Command, Fact, Vote, ballot_of};
 
 #[derive(Drop)]
@@ -18,7 +18,7 @@ impl Command for Number {
 
 /// The ballot of a step's last message, the command that it proposes (0 for none), and the numbers
 /// of messages and facts.
-fn shape_of(step: &Step<Number>) -> (u64, u32, usize, usize) {
+fn shape_of(step: &ProposerEffect<Number>) -> (u64, u32, usize, usize) {
     let (ballot, value) = match step.messages.last() {
         None => (0, 0),
         Some(message) => match &message.body {

@@ -3,13 +3,13 @@
 
 ghost use Rattle.std.specs.Prelude.{◌≡◌, ◌≤◌, OnErr, Ok, true, false};
 ghost use Rattle.ts_cli.specs.Says.{IsInRange};
-ghost use Rattle.ts_client.specs.declared.ended.Ended.TheVariants.{Well, Refused};
+ghost use Rattle.ts_client.specs.declared.ended.Ending.TheVariants.{Well, Refused};
 
 use std::io;
 use std::io::Input;
 use std::process::ExitCode;
 use ts_cli::{Task, report, task_of_process};
-use ts_client::{Ended, Fault, verify_files};
+use ts_client::{Ending, TaskFault, verify_files};
 use ts_lab::lab;
 use ts_tasks::run;
 
@@ -43,14 +43,14 @@ fn run_lab(rt: &(impl AllocGlobal + Input + Print)) -> u8
 
 /// The status that a task ends with: 0; 1 where a command is refused or a chain is not valid; and 1
 /// for a fault, whose name is printed on standard error.
-fn status_of(rt: &impl Eprint, ended: Result<Ended, Fault>) -> u8
+fn status_of(rt: &impl Eprint, ended: Result<Ending, TaskFault>) -> u8
     ensures done { ended ≡ Ok Well → result ≡ 0 }
     ensures refused { ended ≡ Ok Refused → result ≡ 1 }
     ensures failed { OnErr ended (result ≡ 1) }
 {
     match ended {
-        Ok(Ended::Well) => 0,
-        Ok(Ended::Refused) => 1,
+        Ok(Ending::Well) => 0,
+        Ok(Ending::Refused) => 1,
         Err(fault) => {
             let _printed = eprintln!(rt; "fault: {fault}");
             1
@@ -60,7 +60,7 @@ fn status_of(rt: &impl Eprint, ended: Result<Ended, Fault>) -> u8
 
 /// The status that a verdict ends with: 0 where the chain is valid, 1 where it is not, and 2 for a
 /// fault, whose name is printed on standard error.
-fn status_of_verdict(rt: &impl Eprint, ended: Result<bool, Fault>) -> u8
+fn status_of_verdict(rt: &impl Eprint, ended: Result<bool, TaskFault>) -> u8
     ensures valid { ended ≡ Ok true → result ≡ 0 }
     ensures invalid { ended ≡ Ok false → result ≡ 1 }
     ensures failed { OnErr ended (result ≡ 2) }

@@ -41,7 +41,7 @@ pub record StandsFor {C : Type 0} (a : Acceptor C) (facts : List (Fact C)) : Typ
   pub taken : HasVotes a.taken facts
 
 -- nothing that an acceptor has promised or taken is changed
-pub record Unchanged {C : Type 0} (a b : Acceptor C) : Type 0 where
+pub record IsUnchanged {C : Type 0} (a b : Acceptor C) : Type 0 where
   pub config : config_of b ≡ config_of a
   pub promised : (p : ℕ) → promised_at b p ≡ promised_at a p
   pub taken : (p : ℕ) → taken_at b p ≡ taken_at a p

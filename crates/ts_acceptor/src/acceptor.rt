@@ -8,7 +8,7 @@ ghost use Rattle.ts_synod.specs.declared.message.Fact.TheVariants.{Promised, Too
 ghost use Rattle.ts_synod.specs.Messages.{broadcast, send};
 ghost use Rattle.ts_synod.specs.Acceptor.{accept, only_messages, on_prepare, on_accept};
 ghost use Rattle.ts_acceptor.specs.Acceptor.{promised_at, taken_at, config_of, HasVotes, StandsFor};
-ghost use Rattle.ts_acceptor.specs.Acceptor.{Unchanged};
+ghost use Rattle.ts_acceptor.specs.Acceptor.{IsUnchanged};
 ghost use Rattle.ts_acceptor.specs.Steps.{Makes, HasPlaces, IsOfOther, IsLatest};
 
 use std::alloc::{AllocError, Global};
@@ -28,7 +28,7 @@ pub struct Acceptor<C> {
 
 /// How a step changes an acceptor.
 #[derive(Drop)]
-enum Change<C> {
+enum AcceptorChange<C> {
     Nothing,
     Promise {
         position: u32,
@@ -44,10 +44,10 @@ enum Change<C> {
 /// What is to be kept on stable storage, what is to be sent after that, and the change of the
 /// acceptor.
 #[derive(Drop)]
-pub struct Step<C> {
+pub struct AcceptorEffect<C> {
     pub facts: Vec<Fact<C>>,
     pub messages: Vec<Message<C>>,
-    change: Change<C>,
+    change: AcceptorChange<C>,
 }
 
 impl<C: Command> Acceptor<C> {
@@ -162,7 +162,7 @@ impl<C: Command> Acceptor<C> {
     /// Makes places for a promise and a vote.
     fn reserve(&mut self, position: u32) -> Result<(), AllocError>
         ensures places { OnOk result (HasPlaces self.new position) }
-        ensures same { Unchanged self.old self.new }
+        ensures same { IsUnchanged self.old self.new }
     {
         if !self.promised.contains_key(&position) {
             self.promised.insert(position, 0)?;
@@ -174,14 +174,14 @@ impl<C: Command> Acceptor<C> {
     }
 
     /// The step that keeps nothing and sends these messages.
-    fn only_messages(&self, messages: Vec<Message<C>>) -> Step<C>
+    fn only_messages(&self, messages: Vec<Message<C>>) -> AcceptorEffect<C>
         ensures step { Makes result (only_messages messages.items) }
         ensures latest { IsLatest self.now result }
     {
-        Step {
+        AcceptorEffect {
             facts: Vec::new(self.alloc),
             messages,
-            change: Change::Nothing,
+            change: AcceptorChange::Nothing,
         }
     }
 
@@ -192,7 +192,7 @@ impl<C: Command> Acceptor<C> {
         position: u32,
         ballot: Ballot,
         promised: Ballot,
-    ) -> Result<Step<C>, AllocError>
+    ) -> Result<AcceptorEffect<C>, AllocError>
         ensures step { IfOk result (λ step. Makes step
             (only_messages (send self.now.me from (Busy position ballot promised) ∷ []))) }
         ensures latest { IfOk result (λ step. IsLatest self.now step) }
@@ -211,7 +211,12 @@ impl<C: Command> Acceptor<C> {
     }
 
     /// The step that promises a ballot, and reports the vote taken.
-    fn promise(&self, from: u8, position: u32, ballot: Ballot) -> Result<Step<C>, AllocError>
+    fn promise(
+        &self,
+        from: u8,
+        position: u32,
+        ballot: Ballot,
+    ) -> Result<AcceptorEffect<C>, AllocError>
         requires places { HasPlaces self.now position }
         requires above { promised_at self.now position < ballot }
         ensures step { IfOk result (λ step. Makes step
@@ -236,15 +241,20 @@ impl<C: Command> Acceptor<C> {
                 taken,
             },
         })?;
-        Ok(Step {
+        Ok(AcceptorEffect {
             facts,
             messages,
-            change: Change::Promise { position, ballot },
+            change: AcceptorChange::Promise { position, ballot },
         })
     }
 
     /// The answer to a Prepare, where there are places for it.
-    fn answer_prepare(&self, from: u8, position: u32, ballot: Ballot) -> Result<Step<C>, AllocError>
+    fn answer_prepare(
+        &self,
+        from: u8,
+        position: u32,
+        ballot: Ballot,
+    ) -> Result<AcceptorEffect<C>, AllocError>
         requires places { HasPlaces self.now position }
         ensures step { IfOk result (λ step. Makes step
             (on_prepare (config_of self.now) (promised_at self.now position)
@@ -269,12 +279,12 @@ impl<C: Command> Acceptor<C> {
         from: u8,
         position: u32,
         ballot: Ballot,
-    ) -> Result<Step<C>, AllocError>
+    ) -> Result<AcceptorEffect<C>, AllocError>
         ensures step { IfOk result (λ step. Makes step
             (on_prepare (config_of self.old) (promised_at self.old position)
             (taken_at self.old position) from position ballot)) }
         ensures latest { IfOk result (λ step. IsLatest self.new step) }
-        ensures same { Unchanged self.old self.new }
+        ensures same { IsUnchanged self.old self.new }
     {
         self.reserve(position)?;
         let step = self.answer_prepare(from, position, ballot)?;
@@ -282,7 +292,12 @@ impl<C: Command> Acceptor<C> {
     }
 
     /// The step that takes a command.
-    fn take(&self, position: u32, ballot: Ballot, command: &C) -> Result<Step<C>, AllocError>
+    fn take(
+        &self,
+        position: u32,
+        ballot: Ballot,
+        command: &C,
+    ) -> Result<AcceptorEffect<C>, AllocError>
         requires places { HasPlaces self.now position }
         requires promised { promised_at self.now position ≤ ballot }
         requires other { IsOfOther ballot (taken_at self.now position) }
@@ -303,12 +318,12 @@ impl<C: Command> Acceptor<C> {
             command: command.try_copy(self.alloc)?,
         };
         let messages = broadcast(self.alloc, self.me, self.nodes, &body)?;
-        let change = Change::Take {
+        let change = AcceptorChange::Take {
             position,
             ballot,
             command: command.try_copy(self.alloc)?,
         };
-        Ok(Step {
+        Ok(AcceptorEffect {
             facts,
             messages,
             change,
@@ -316,7 +331,12 @@ impl<C: Command> Acceptor<C> {
     }
 
     /// The step that sends the vote taken again.
-    fn repeat(&self, position: u32, ballot: Ballot, command: &C) -> Result<Step<C>, AllocError>
+    fn repeat(
+        &self,
+        position: u32,
+        ballot: Ballot,
+        command: &C,
+    ) -> Result<AcceptorEffect<C>, AllocError>
         requires { self.now.nodes ≤ 9 }
         ensures step { IfOk result (λ step. Makes step
             (only_messages (broadcast self.now.me self.now.nodes
@@ -339,7 +359,7 @@ impl<C: Command> Acceptor<C> {
         position: u32,
         ballot: Ballot,
         command: &C,
-    ) -> Result<Step<C>, AllocError>
+    ) -> Result<AcceptorEffect<C>, AllocError>
         requires places { HasPlaces self.now position }
         requires nodes { self.now.nodes ≤ 9 }
         ensures step { IfOk result (λ step. Makes step
@@ -371,13 +391,13 @@ impl<C: Command> Acceptor<C> {
         position: u32,
         ballot: Ballot,
         command: &C,
-    ) -> Result<Step<C>, AllocError>
+    ) -> Result<AcceptorEffect<C>, AllocError>
         requires { (config_of self.old).nodes ≤ 9 }
         ensures step { IfOk result (λ step. Makes step
             (on_accept (config_of self.old) (promised_at self.old position)
             (taken_at self.old position) from position ballot command.now)) }
         ensures latest { IfOk result (λ step. IsLatest self.new step) }
-        ensures same { Unchanged self.old self.new }
+        ensures same { IsUnchanged self.old self.new }
     {
         self.reserve(position)?;
         let step = self.answer_accept(from, position, ballot, command)?;
@@ -385,23 +405,23 @@ impl<C: Command> Acceptor<C> {
     }
 
     /// Makes a step's change, which takes no memory.
-    pub fn keep(&mut self, step: Step<C>)
+    pub fn keep(&mut self, step: AcceptorEffect<C>)
         requires { IsLatest self.old step }
         ensures state { (facts : List (Fact C)) → StandsFor self.old facts
             → StandsFor self.new (facts ++ step.facts.items) }
         ensures config { config_of self.new ≡ config_of self.old }
     {
-        let Step {
+        let AcceptorEffect {
             facts: _facts,
             messages: _messages,
             change,
         } = step;
         match change {
-            Change::Nothing => {}
-            Change::Promise { position, ballot } => {
+            AcceptorChange::Nothing => {}
+            AcceptorChange::Promise { position, ballot } => {
                 put_at(&mut self.promised, position, ballot);
             }
-            Change::Take {
+            AcceptorChange::Take {
                 position,
                 ballot,
                 command,

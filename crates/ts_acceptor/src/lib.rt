@@ -18,4 +18,4 @@
 
 mod acceptor;
 
-pub use acceptor::{Acceptor, Step};
+pub use acceptor::{Acceptor, AcceptorEffect};

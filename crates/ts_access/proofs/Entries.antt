@@ -8,7 +8,7 @@ use Rattle.std.specs.declared.alloc.Global.{Global}
 use Rattle.std.proofs.lemmas.List.{append-nil}
 use Rattle.ts_guard.specs.Hello.{greeting_octets}
 use Rattle.ts_guard.specs.Opening.{HasOpened, IsOpenerFor}
-use Rattle.ts_guard.specs.Sealed.{IsContent, sealed, stream}
+use Rattle.ts_guard.specs.Sealed.{IsContent, sealed_record, stream}
 use Rattle.ts_guard.specs.declared.challenger.Challenger.{Challenger}
 use Rattle.ts_guard.specs.declared.hello.Greeting.{Greeting}
 use Rattle.ts_guard.specs.declared.opener.Opener.{Opener}
@@ -33,15 +33,15 @@ use Rattle.ts_access.proofs.Sieves.{concat_one_more, each_one_more, sieve_after,
 stream_one_more : (key context : List ℕ) (number last : ℕ) (contents : List (List ℕ))
     (content : List ℕ) → last ≡ number + length contents
     → stream key context number (contents ++ content ∷ [])
-    ≡ stream key context number contents ++ sealed key context last content
+    ≡ stream key context number contents ++ sealed_record key context last content
 stream_one_more key context number last [] content is =
-    append-nil (sealed key context number content)
-    ∙ ap (λ k. sealed key context k content) (omega (arith, is))
+    append-nil (sealed_record key context number content)
+    ∙ ap (λ k. sealed_record key context k content) (omega (arith, is))
 stream_one_more key context number last (c ∷ contents) content is =
-    ap (λ (l : List ℕ). sealed key context number c ++ l)
+    ap (λ (l : List ℕ). sealed_record key context number c ++ l)
     (stream_one_more key context (number + 1) last contents content (omega (arith, is)))
-    ∙ sym (append_assoc (sealed key context number c)
-    (stream key context (number + 1) contents) (sealed key context last content))
+    ∙ sym (append_assoc (sealed_record key context number c)
+    (stream key context (number + 1) contents) (sealed_record key context last content))
 
 length_one_more : (contents : List (List ℕ)) (content : List ℕ)
     → length (contents ++ content ∷ []) ≡ length contents + 1
@@ -74,7 +74,7 @@ tells_one_more keys challenge key greeting contents old new content came t numbe
     let hello = greeting_octets greeting.key_id greeting.nonce in
     let all = comes challenge greeting in
     let records = stream key.secret all 0 contents in
-    let one = sealed key.secret all old.number content in
+    let one = sealed_record key.secret all old.number content in
     record {
       found = t.found;
       each = each_one_more IsContent contents content t.each h.fits;

@@ -1,6 +1,5 @@
 pub mod Cutting
 pub mod Entries
-pub mod Numbers
 pub mod Reading
 pub mod Runs
 pub mod Sieves

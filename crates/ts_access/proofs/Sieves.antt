@@ -14,7 +14,7 @@ use Rattle.ts_access.specs.Frames.{Heads, IsAllowed, IsFaulty, IsForbidden, IsPa
 use Rattle.ts_access.specs.Frames.{Says}
 use Rattle.ts_access.specs.Sifting.{Came, Goes, Hands, Passes, Sifts, Starts}
 use Rattle.ts_access.specs.Sifting.{handed_by, held_after, refusal}
-use Rattle.ts_access.specs.Sifted.{Admits, IsSieve, shown}
+use Rattle.ts_access.specs.Sifted.{Admits, IsSieve, output_in}
 use Rattle.ts_access.specs.declared.key.Role.{Role}
 use Rattle.ts_access.specs.declared.key.Role.TheVariants.{Peer, Admin, Reader}
 use Rattle.ts_access.specs.declared.sieve.Phase.{Phase}
@@ -286,7 +286,7 @@ from_head role node phases.Refused now held octets after seen handed starts pass
     (refused_rest role node seen handed held octets after s passes.0 passes.1 starts)
 
 shown_before : (role : Role) (node : ℕ) (phase : Phase) (seen handed : List ℕ)
-    (a : Admits role node phase seen handed) → shown phase a.rest ≡ a.rest
+    (a : Admits role node phase seen handed) → output_in phase a.rest ≡ a.rest
     → IsShown role node a.rest seen handed
 shown_before role node phase seen handed a same =
     record {

@@ -4,6 +4,7 @@ use Rattle.std.specs.Prelude.{◌-◌, List, [], ◌∷◌, ◌++◌, codes, len
 use Rattle.std.specs.Prelude.{if◌then◌else◌}
 use Rattle.std.specs.Fmt.{decimal}
 use Rattle.hex.specs.Hex.{decode_sized, encode_lower}
+use Rattle.ts_literal.specs.Literals.{IsNumber}
 use Rattle.ts_access.specs.Pieces.{lines_of, words_of}
 use Rattle.ts_access.specs.declared.fault.KeysFault.{KeysFault}
 use Rattle.ts_access.specs.declared.fault.KeysFault.TheVariants as faults
@@ -15,11 +16,6 @@ use Rattle.ts_access.specs.declared.key.Role.TheVariants.{Peer, Admin, Reader}
 abbrev pub key_found : List Key → ℕ → Option Key
 key_found [] id = None
 key_found (key ∷ keys) id = if nat_eq key.id id then Some key else key_found keys id
-
--- a number below 2^32, in decimal without leading zeros
-pub record IsNumber (word : List ℕ) (number : ℕ) : Type 0 where
-  pub written : word ≡ decimal number
-  pub range : number < 2 ^ 32
 
 -- nodes have the numbers 1 to 9, and each is written as its digit
 abbrev pub IsNode : ℕ → Type 0

@@ -18,9 +18,9 @@ Ends role node phases.Refused rest = (front more : List ℕ) × (rest ≡ front 
     × IsForbidden role node front
 
 -- what is handed on of that
-abbrev pub shown : Phase → List ℕ → List ℕ
-shown phases.Refused rest = refusal
-shown phase rest = rest
+abbrev pub output_in : Phase → List ℕ → List ℕ
+output_in phases.Refused rest = refusal
+output_in phase rest = rest
 
 -- of a stream these octets were handed on
 pub record Admits (role : Role) (node : ℕ) (phase : Phase) (stream handed : List ℕ) : Type 0 where
@@ -29,7 +29,7 @@ pub record Admits (role : Role) (node : ℕ) (phase : Phase) (stream handed : Li
   pub each : AllByRecursion (IsAllowed role node) frames
   pub ends : Ends role node phase rest
   pub stream_is : stream ≡ concat frames ++ rest
-  pub handed_is : handed ≡ concat frames ++ shown phase rest
+  pub handed_is : handed ≡ concat frames ++ output_in phase rest
 
 -- a sieve to which this stream came, and that has handed on these octets
 pub record IsSieve (sieve : Sieve) (stream handed : List ℕ) : Type 0 where

@@ -2,7 +2,7 @@
 
 ghost use Rattle.std.specs.Prelude.{◌≡◌, ◌≢◌, ◌++◌, [], ℕ, List, IfOk, IfErr, OnOk, MatchOption};
 ghost use Rattle.std.specs.Prelude.{option_map, string_bytes};
-ghost use Rattle.ts_access.specs.Keys.{Adds, AddsLine, IsKeyLine, IsNode, IsNumber, IsRefused};
+ghost use Rattle.ts_access.specs.Keys.{Adds, AddsLine, IsKeyLine, IsNode, IsRefused};
 ghost use Rattle.ts_access.specs.Keys.{IsRole, IsSecret, IsWrongLine, is_skipped, key_found};
 ghost use Rattle.ts_access.specs.Keys.{line_text, node_word, role_text, role_words};
 ghost use Rattle.ts_access.specs.Pieces.{lines_of, words_behind};
@@ -13,6 +13,7 @@ use crate::fault::KeysFault;
 use crate::key::{Key, Role};
 use crate::piece::{Mark, first_piece, first_word};
 use std::alloc::{AllocError, Global};
+use ts_literal::number_of_octets;
 
 /// The most keys that a file has.
 pub const MAX_KEYS: usize = 4_096;
@@ -23,15 +24,6 @@ const PEER: &[u8] = b"peer";
 const ADMIN: &[u8] = b"admin";
 
 const READER: &[u8] = b"reader";
-
-/// The number that a word writes in decimal, without leading zeros.
-fn number_of(word: &[u8]) -> Option<u32>
-    ensures { MatchOption result ((n : ℕ) → ¬ (IsNumber word.now n)) (IsNumber word.now) }
-{
-    let number: u32 = str::from_utf8(word).ok()?.parse().ok()?;
-    let mut encoding = itoa::Buffer::new();
-    (encoding.format(number).as_bytes() == word).then_some(number)
-}
 
 /// The number of a node that a word writes.
 fn node_of(word: &[u8]) -> Option<u8>
@@ -86,7 +78,7 @@ fn key_in(line: &[u8]) -> Option<Key>
     ensures { MatchOption result ((key : Key) → ¬ (IsKeyLine line.now key)) (IsKeyLine line.now) }
 {
     let (id, rest) = first_word(Some(line))?;
-    let id = number_of(id)?;
+    let id = number_of_octets(id)?;
     let (role, rest) = role_in(rest)?;
     let (digits, rest) = first_word(rest)?;
     let secret = secret_of(digits)?;

@@ -2,8 +2,8 @@
 use Rattle.std.proofs.Common.{◌≡◌, ◌∙◌, ◌≤◌, ◌-◌, ◌∷◌, ℕ, List, [], map, ap, refl, length, get_or, take, drop, arith}
 use Rattle.ts_cert.specs.Certificate.{Certificate}
 use Rattle.ts_crl.specs.List.{CertificateList}
-use Rattle.ts_path.specs.Asked.{TrustAnchor, Asked}
-use Rattle.ts_path.specs.Chain.{Question}
+use Rattle.ts_path.specs.Asked.{TrustAnchor, ValidationInputs}
+use Rattle.ts_path.specs.Chain.{ChainQuestion}
 use Rattle.ts_search.specs.Search.{Search}
 use Rattle.ts_search.specs.View.{Check}
 use Rattle.ts_question.specs.declared.terms.Terms.{Terms}
@@ -23,20 +23,25 @@ front_is (y ∷ ys) x some is =
     let e = ap (λ k. take k ys) n ∙ take_whole ys in
     λ i. is i ∷ e i
 
-abbrev asking : Asked → List Certificate → Question
+abbrev asking : ValidationInputs → List Certificate → ChainQuestion
 asking asked chain = record { asked = asked; chain = chain }
 
-abbrev searching : List Certificate → List TrustAnchor → (TrustAnchor → Asked) → Search
+abbrev searching : List Certificate → List TrustAnchor → (TrustAnchor → ValidationInputs) → Search
 searching certificates anchors asked = record { certificates = certificates; anchors = anchors; asked = asked }
 
 module _ (good : Check) (tables : Tables) (terms : Terms) (lists deltas : List CertificateList) (are_lists : lists ≡ lists_in tables.complete) (are_deltas : deltas ≡ lists_in tables.deltas) where
-  same_asked : (a : Asked) (x y : TrustAnchor) → a ≡ asked_with good lists deltas terms x → x ≡ y → a ≡ asked_of good tables terms y
+  same_asked : (a : ValidationInputs) (x y : TrustAnchor) → a ≡ asked_with good lists deltas terms x → x ≡ y → a ≡ asked_of good tables terms y
   same_asked a x y is same = is ∙ (λ i. asked_with good (are_lists i) (are_deltas i) terms (same i))
 
-  pub same_question : (a : Asked) (x : TrustAnchor) (stored : StoredAnchor) (chain : List Certificate) (octets : List (List ℕ)) → a ≡ asked_with good lists deltas terms x → x ≡ trust_anchor stored → chain ≡ chain_of octets
+  pub same_question : (a : ValidationInputs) (x : TrustAnchor) (stored : StoredAnchor)
+      (chain : List Certificate) (octets : List (List ℕ)) → a ≡ asked_with good lists deltas terms x
+      → x ≡ trust_anchor stored → chain ≡ chain_of octets
       → asking a chain ≡ question_of good tables terms stored octets
   same_question a x stored chain octets is same chained = let e = same_asked a x (trust_anchor stored) is same in λ i. asking (e i) (chained i)
 
-  pub same_search : (a : TrustAnchor → Asked) (anchors : List TrustAnchor) (certificates : List Certificate) (octets : List (List ℕ)) → ((x : TrustAnchor) → a x ≡ asked_with good lists deltas terms x) → anchors ≡ map trust_anchor tables.anchors → certificates ≡ chain_of octets
+  pub same_search : (a : TrustAnchor → ValidationInputs) (anchors : List TrustAnchor)
+      (certificates : List Certificate) (octets : List (List ℕ))
+      → ((x : TrustAnchor) → a x ≡ asked_with good lists deltas terms x)
+      → anchors ≡ map trust_anchor tables.anchors → certificates ≡ chain_of octets
       → searching certificates anchors a ≡ search_of good tables terms octets
   same_search a anchors certificates octets is same chained = λ i. searching (chained i) (same i) (λ x. same_asked (a x) x x (is x) (λ j. x) i)

@@ -10,7 +10,7 @@ use Rattle.ts_listing.specs.View.{line_in}
 use Rattle.ts_listing.specs.declared.log.Entry.{Entry}
 use Rattle.ts_listing.proofs.Logs.{log_more, log_take, log_length}
 use Rattle.ts_search.proofs.Takes.{length_map}
-use Rattle.ts_answer.specs.View.{AreEntries}
+use Rattle.ts_answer.specs.inside.View.{AreEntries}
 
 pub no_entries : (commands : List Command) (entries : List Entry) → commands ≡ [] → entries ≡ [] → AreEntries entries commands
 unfolding log_from
@@ -21,7 +21,10 @@ map_more [] x = refl
 map_more (y ∷ ys) x = ap (λ l. line_in y ∷ l) (map_more ys x)
 
 -- one more command
-pub one_more : (commands more : List Command) (command : Command) (entries next : List Entry) (entry : Entry) (outcome : Outcome) → AreEntries entries commands → more ≡ commands ++ command ∷ [] → next ≡ entries ++ entry ∷ [] → outcome ≡ outcome_after commands command → line_in entry ≡ command_row command outcome
+pub one_more : (commands more : List Command) (command : Command) (entries next : List Entry)
+    (entry : Entry) (outcome : Outcome) → AreEntries entries commands → more ≡ commands ++ command
+    ∷ [] → next ≡ entries ++ entry ∷ [] → outcome ≡ outcome_after commands command
+    → line_in entry ≡ command_row command outcome
     → AreEntries next more
 one_more commands more command entries next entry outcome are more-is next-is outcome-is entry-is =
     ap (map line_in) next-is ∙ map_more entries entry

@@ -6,7 +6,9 @@ use Rattle.ts_store.specs.Tables.{Tables}
 use Rattle.ts_answer.specs.Asked.{lists_in}
 
 -- the id of an anchor that is lent
-pub id_there : (anchors : List LentAnchor) (number : ℕ) (d : LentAnchor) → number < length anchors → slice_get (map (λ a. a.id) (map anchor_in anchors)) number ≡ Some (slice_index_or anchors number d).id
+pub id_there : (anchors : List LentAnchor) (number : ℕ) (d : LentAnchor) → number < length anchors
+    → slice_get (map (λ a. a.id) (map anchor_in anchors)) number ≡ Some
+    (slice_index_or anchors number d).id
 id_there [] number d within = absurd (omega (arith, within))
 id_there (a ∷ anchors) zero d within = refl
 id_there (a ∷ anchors) (suc number) d within = id_there anchors number d (omega (arith, within))

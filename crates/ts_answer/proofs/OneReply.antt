@@ -1,20 +1,15 @@
 -- A question has one reply over a store.
-use Rattle.std.proofs.Common.{◌≡◌, ◌∙◌, ◌≤◌, ◌==◌, ℕ, suc, List, [], Option, Some, None, true, length, map, refl, sym, ap, subst, arith, if◌then◌else◌}
+use Rattle.std.proofs.Common.{◌≡◌, ◌∙◌, ◌≤◌, ℕ, suc, List, [], Option, Some, None, true, length, map, refl, sym, ap, subst, arith}
 use Rattle.std.specs.Prelude.{unwrap_or, slice_get, nat_le, ◌&&◌}
-use Rattle.ts_path.specs.Conditions.{number_of}
 use Rattle.ts_path.specs.Verdict as path
 use Rattle.ts_path.specs.declared.verdict.Verdict.{Verdict}
 use Rattle.ts_path.specs.declared.verdict.Verdict.TheVariants as verdict
-use Rattle.ts_path.specs.declared.reason.Reason.{Reason as PathReason}
 use Rattle.ts_path.proofs.OneVerdict as one_verdict
 use Rattle.ts_search.specs.Search as search
 use Rattle.ts_search.specs.View.{Check}
-use Rattle.ts_search.specs.declared.answer.Answer.{Answer as SearchAnswer}
-use Rattle.ts_search.specs.declared.answer.Answer.TheVariants as found
+use Rattle.ts_search.specs.declared.answer.SearchAnswer.{SearchAnswer}
+use Rattle.ts_search.specs.declared.answer.SearchAnswer.TheVariants as found
 use Rattle.ts_search.proofs.OneAnswer as one_answer
-use Rattle.ts_question.specs.Reply as reply
-use Rattle.ts_question.specs.declared.reason.Reason.{Reason}
-use Rattle.ts_question.specs.declared.reason.Reason.TheVariants.{AnchorPurpose, Signature, TooEarly, Expired, Revoked, Undetermined, IssuerName, UnsupportedConstraint, NotPermitted, Excluded, PolicyRequired, MapsAny, NotCa, PathLength, KeyUsage, CriticalExtension, FinalPolicy, Purpose}
 use Rattle.ts_question.specs.declared.reply.Reply.{Reply}
 use Rattle.ts_question.specs.declared.reply.Reply.TheVariants.{Valid, Invalid, Found, NoPath, SearchLimit}
 use Rattle.ts_store.specs.declared.anchor.TrustAnchor.{TrustAnchor as StoredAnchor}
@@ -25,55 +20,18 @@ use Rattle.ts_cert.specs.CertView.{certificate_in}
 use Rattle.ts_question.specs.declared.terms.Terms.{Terms}
 use Rattle.ts_question.specs.declared.question.Target.{Target}
 use Rattle.ts_question.specs.declared.question.Target.TheVariants as target
-use Rattle.ts_question.specs.Question.{Asked, Fits, are_certificates, are_terms, is_target}
-use Rattle.ts_question.specs.Reply.{Answered}
+use Rattle.ts_question.specs.Question.{StoreQuestion, QuestionFits, are_certificates, are_terms, is_target}
+use Rattle.ts_question.specs.Reply.{NumberedReply}
 use Rattle.ts_codec.proofs.Truths.{first_true, second_true}
 use Rattle.std.proofs.lemmas.Bool.{leb-true}
 use Rattle.ts_search.proofs.Takes.{length_map}
 use Rattle.ts_answer.specs.Asked.{chain_of, question_of, search_of}
 use Rattle.ts_store.specs.declared.outcome.Outcome.{Outcome}
-use Rattle.ts_node.specs.Run.{Group, Happening, Promised}
+use Rattle.ts_node.specs.Run.{Group, Happening, RunPromises}
 use Rattle.ts_answer.specs.Laws.{AskTheSame, Headline, trust_store}
 use Rattle.ts_answer.specs.Machine.{IsAnswer}
 use Rattle.ts_answer.specs.Parts.{Unreadable, first_part, first_unreadable}
-use Rattle.ts_answer.specs.Reply.{code_in, oid_in, SaysReason, SaysVerdict, SaysSearch, IsChainReply, IsTargetReply, IsReplyBy, IsReplyTo, IsReply, with_id}
-
--- ---- a reason is its number, its code and its object identifier
-
-abbrev reason_at : ℕ → Option ℕ → Option (List ℕ) → Reason
-reason_at n code oid =
-    if n == 5 then Revoked (unwrap_or code 0) else if n == 16 then CriticalExtension (unwrap_or oid [])
-    else if n == 1 then AnchorPurpose else if n == 2 then Signature else if n == 3 then TooEarly else if n == 4 then Expired
-    else if n == 6 then Undetermined else if n == 7 then IssuerName else if n == 8 then UnsupportedConstraint else if n == 9 then NotPermitted
-    else if n == 10 then Excluded else if n == 11 then PolicyRequired else if n == 12 then MapsAny else if n == 13 then NotCa
-    else if n == 14 then PathLength else if n == 15 then KeyUsage else if n == 17 then FinalPolicy else Purpose
-
-is_at : (r : Reason) → reason_at (reply.number_of r) (code_in r) (oid_in r) ≡ r
-is_at AnchorPurpose = refl
-is_at Signature = refl
-is_at TooEarly = refl
-is_at Expired = refl
-is_at (Revoked code) = refl
-is_at Undetermined = refl
-is_at IssuerName = refl
-is_at UnsupportedConstraint = refl
-is_at NotPermitted = refl
-is_at Excluded = refl
-is_at PolicyRequired = refl
-is_at MapsAny = refl
-is_at NotCa = refl
-is_at PathLength = refl
-is_at KeyUsage = refl
-is_at (CriticalExtension oid) = refl
-is_at FinalPolicy = refl
-is_at Purpose = refl
-
-one_reason : (a b : Reason) (r s : PathReason) → SaysReason a r → SaysReason b s → path.IsSameReason r s → a ≡ b
-one_reason a b r s x y same =
-    let n = x.number ∙ ap number_of same.0 ∙ sym y.number in
-    let c = x.code ∙ same.1 ∙ sym y.code in
-    let o = x.oid ∙ same.2 ∙ sym y.oid in
-    sym (is_at a) ∙ (λ i. reason_at (n i) (c i) (o i)) ∙ is_at b
+use Rattle.ts_answer.specs.Reply.{SaysVerdict, SaysSearch, IsChainReply, IsTargetReply, IsReplyBy, IsReplyTo, IsReply, with_id}
 
 -- ---- a verdict and an answer are said by one reply
 
@@ -89,7 +47,7 @@ one_said id other (verdict.Valid ps) (verdict.Valid qs) a b is same x y = valid 
 one_said id other (verdict.Invalid p r) (verdict.Invalid q s) a b is same x y = invalid a b x y
   where
     invalid : (a b : Reply) → SaysVerdict id (verdict.Invalid p r) a → SaysVerdict other (verdict.Invalid q s) b → a ≡ b
-    invalid (Invalid place said) (Invalid too more) x y = let e = x.0 ∙ same.0 ∙ sym y.0 in let f = one_reason said more r s x.1 y.1 same.1 in λ i. Invalid (e i) (f i)
+    invalid (Invalid place said) (Invalid too more) x y = let e = x.0 ∙ same.0 ∙ sym y.0 in let f = x.1 ∙ same.1 ∙ sym y.1 in λ i. Invalid (e i) (f i)
     invalid (Invalid place said) b x y = absurd y
     invalid a b x y = absurd x
 
@@ -123,7 +81,9 @@ one_found anchors f g a b same x y = absurd same
 
 -- ---- a question has one reply
 
-one_chain : (good : Check) (tables : Tables) (terms : Terms) (octets : List (List ℕ)) (o : Option StoredAnchor) (a b : Reply) → 1 ≤ length octets → IsChainReply good tables terms octets o a → IsChainReply good tables terms octets o b → a ≡ b
+one_chain : (good : Check) (tables : Tables) (terms : Terms) (octets : List (List ℕ))
+    (o : Option StoredAnchor) (a b : Reply) → 1 ≤ length octets
+    → IsChainReply good tables terms octets o a → IsChainReply good tables terms octets o b → a ≡ b
 one_chain good tables terms octets None a b some x y = x ∙ sym y
 one_chain good tables terms octets (Some stored) a b some x y =
     let long : 1 ≤ length (chain_of octets) = omega (arith, some, length_map certificate_in octets) in
@@ -139,28 +99,36 @@ one_target good tables terms (target.Log from) a b is x y = absurd x
 one_target good tables terms (target.Search octets) a b is x y =
     one_found tables.anchors x.0 y.0 a b (one_answer.one_answer (search_of good tables terms octets) x.0 y.0 x.1 y.1) x.2 y.2
 
-one_reply_by : (good : Check) (tables : Tables) (q : Asked) (o : Option Unreadable) (a b : Reply) → is_target q.target ≡ true → IsReplyBy good tables q o a → IsReplyBy good tables q o b → a ≡ b
+one_reply_by : (good : Check) (tables : Tables) (q : StoreQuestion) (o : Option Unreadable)
+    (a b : Reply) → is_target q.target ≡ true → IsReplyBy good tables q o a
+    → IsReplyBy good tables q o b → a ≡ b
 one_reply_by good tables q (Some u) a b is x y = x ∙ sym y
 one_reply_by good tables q None a b is x y = one_target good tables q.terms q.target a b is x y
 
-one_reply_to : (good : Check) (commands : List Command) (q : Asked) (t : Target) (a b : Reply) → is_target q.target ≡ true → IsReplyTo good commands q t a → IsReplyTo good commands q t b → a ≡ b
+one_reply_to : (good : Check) (commands : List Command) (q : StoreQuestion) (t : Target)
+    (a b : Reply) → is_target q.target ≡ true → IsReplyTo good commands q t a
+    → IsReplyTo good commands q t b → a ≡ b
 one_reply_to good commands q (target.Store from) a b is x y = x ∙ sym y
 one_reply_to good commands q (target.Log from) a b is x y = x ∙ sym y
 one_reply_to good commands q (target.Chain anchor octets) a b is x y = one_reply_by good (store_after commands).tables q (first_unreadable q) a b is x y
 one_reply_to good commands q (target.Search octets) a b is x y = one_reply_by good (store_after commands).tables q (first_unreadable q) a b is x y
 
 -- k makes no difference
-at_any : (good : Check) (commands : List Command) (terms : Terms) (k : Option ℕ) (t : Target) (a : Reply) → IsReply good commands (record { terms = record terms { k = k }; target = t }) a → IsReply good commands (record { terms = terms; target = t }) a
+at_any : (good : Check) (commands : List Command) (terms : Terms) (k : Option ℕ) (t : Target)
+    (a : Reply) → IsReply good commands (record { terms = record terms { k = k }; target = t }) a
+    → IsReply good commands (record { terms = terms; target = t }) a
 unfolding first_part
 at_any good commands terms k (target.Chain anchor octets) a h = h
 at_any good commands terms k (target.Search octets) a h = h
 at_any good commands terms k (target.Store from) a h = h
 at_any good commands terms k (target.Log from) a h = h
 
-at_any_k : (good : Check) (commands : List Command) (q p : Asked) (a : Reply) → AskTheSame q p → IsReply good commands p a → IsReply good commands q a
-at_any_k good commands q p a same x = at_any good commands q.terms p.terms.k q.target a (subst (λ (r : Asked). IsReply good commands r a) same x)
+at_any_k : (good : Check) (commands : List Command) (q p : StoreQuestion) (a : Reply) → AskTheSame q p → IsReply good commands p a → IsReply good commands q a
+at_any_k good commands q p a same x = at_any good commands q.terms p.terms.k q.target a (subst (λ (r : StoreQuestion). IsReply good commands r a) same x)
 
-pub one_answer_of : (good : Check) (commands : List Command) (q p : Asked) (a b : Answered) → Fits q → AskTheSame q p → IsAnswer good commands q a → IsAnswer good commands p b → a ≡ b
+pub one_answer_of : (good : Check) (commands : List Command) (q p : StoreQuestion)
+    (a b : NumberedReply) → QuestionFits q → AskTheSame q p → IsAnswer good commands q a
+    → IsAnswer good commands p b → a ≡ b
 one_answer_of good commands q p a b fits same x y =
     let k = x.k ∙ sym y.k in
     let r = one_reply_to good commands q q.target a.reply b.reply (second_true (are_terms q.terms) (is_target q.target) fits.within) x.reply (at_any_k good commands q p b.reply same y.reply) in
@@ -168,7 +136,10 @@ one_answer_of good commands q p a b fits same x y =
 
 -- ---- the headline
 
-pub the_headline : {D M : Type 0} (good : Check) (n : ℕ) (start : Group D Command M Outcome Asked Answered) (run : List (Happening D Command M Outcome Asked Answered)) → Promised trust_store (IsAnswer good) n start run → Headline good n start run
+pub the_headline : {D M : Type 0} (good : Check) (n : ℕ)
+    (start : Group D Command M Outcome StoreQuestion NumberedReply)
+    (run : List (Happening D Command M Outcome StoreQuestion NumberedReply))
+    → RunPromises trust_store (IsAnswer good) n start run → Headline good n start run
 the_headline good n start run promised = record {
   promised = promised;
   equal = λ x y q p k a b fits same first second.

@@ -8,7 +8,7 @@ use Rattle.std.specs.declared.vec.Vec.{Vec}
 use Rattle.std.specs.declared.alloc.Global.{Global}
 use Rattle.std.proofs.lemmas.List.{take-map}
 use Rattle.lru.specs.LruCache.{LruCache, lru_cache, promoted, put_entries}
-use Rattle.ts_answer.specs.CacheView.{octets_in, pairs_in}
+use Rattle.ts_answer.specs.inside.CacheView.{octets_in, pairs_in}
 
 abbrev Octets : Type 0
 Octets = Vec ℕ Global
@@ -38,7 +38,9 @@ module _ (test : List ℕ → Bool) where
     | false ↦ ap (λ l. octets_in e ∷ l) (removed es)
   ]
 
-  to_front : (es : List (Octets × Octets)) (o : Option (Octets × Octets)) → map octets_in (option_map_or (λ e. e ∷ remove_entry held es) o es) ≡ option_map_or (λ e. e ∷ remove_entry test (map octets_in es)) (option_map octets_in o) (map octets_in es)
+  to_front : (es : List (Octets × Octets)) (o : Option (Octets × Octets))
+      → map octets_in (option_map_or (λ e. e ∷ remove_entry held es) o es) ≡ option_map_or
+      (λ e. e ∷ remove_entry test (map octets_in es)) (option_map octets_in o) (map octets_in es)
   to_front es None = refl
   to_front es (Some e) = ap (λ l. octets_in e ∷ l) (removed es)
 
@@ -59,7 +61,10 @@ module _ (c : LruCache Octets Octets) (key octets : Octets) where
 
   pub put_is : map octets_in (put_entries same c key octets) ≡ put_entries bytes_eq (seen c) key.items octets.items
   put_is = put_as (lookup_entry (same key) c.entries)
-      ∙ ap (λ o. option_map_or (λ e. (e.0, octets.items) ∷ remove_entry (bytes_eq key.items) (seen c).entries) o ((key.items, octets.items) ∷ take (c.cap - 1) (seen c).entries)) (entry (bytes_eq key.items) c.entries)
+      ∙ ap (λ o. option_map_or
+      (λ e. (e.0, octets.items) ∷ remove_entry (bytes_eq key.items) (seen c).entries) o
+      ((key.items, octets.items) ∷ take (c.cap - 1) (seen c).entries))
+      (entry (bytes_eq key.items) c.entries)
 
 -- ---- what a call on the pairs changes of what contracts see
 
@@ -69,13 +74,20 @@ module _ (pairs : Option (LruCache Octets Octets)) (c : LruCache Octets Octets) 
 
   pub is_put : {E : Type 0} (r : Result (Option Octets) E) (new : LruCache Octets Octets) (key octets : Octets) → OnOk r (new ≡ lru_cache (put_entries same c key octets) c.cap) → OnErr r (new ≡ c)
       → (seen new ≡ v) ⊎ (seen new ≡ lru_cache (put_entries bytes_eq v key.items octets.items) v.cap)
-  is_put (Ok old) new key octets put err = inr (ap seen put ∙ ap (λ l. lru_cache l c.cap) (put_is c key octets) ∙ ap (λ (x : LruCache (List ℕ) (List ℕ)). lru_cache (put_entries bytes_eq x key.items octets.items) x.cap) as_seen)
+  is_put (Ok old) new key octets put err =
+      inr (ap seen put ∙ ap (λ l. lru_cache l c.cap) (put_is c key octets)
+      ∙ ap (λ (x : LruCache (List ℕ) (List ℕ)). lru_cache
+      (put_entries bytes_eq x key.items octets.items) x.cap) as_seen)
   is_put (Err e) new key octets put err = inl (ap seen err ∙ as_seen)
 
   pub is_promoted : (test : List ℕ → Bool) (new : LruCache Octets Octets) → new ≡ lru_cache (promoted (λ w. test w.items) c.entries) c.cap → seen new ≡ lru_cache (promoted test v.entries) v.cap
-  is_promoted test new promotes = ap seen promotes ∙ ap (λ l. lru_cache l c.cap) (promoted_is test c.entries) ∙ ap (λ (x : LruCache (List ℕ) (List ℕ)). lru_cache (promoted test x.entries) x.cap) as_seen
+  is_promoted test new promotes = ap seen promotes
+      ∙ ap (λ l. lru_cache l c.cap) (promoted_is test c.entries)
+      ∙ ap (λ (x : LruCache (List ℕ) (List ℕ)). lru_cache (promoted test x.entries) x.cap) as_seen
 
-  pub is_found : {A : Type 0} (test : List ℕ → Bool) (P : A → Type 0) (f : A → List ℕ) (o : Option A) → IfSome o (λ a. P a × (option_map (λ w. w.items) (lookup (λ w. test w.items) c.entries) ≡ Some (f a)))
+  pub is_found : {A : Type 0} (test : List ℕ → Bool) (P : A → Type 0) (f : A → List ℕ)
+      (o : Option A) → IfSome o
+      (λ a. P a × (option_map (λ w. w.items) (lookup (λ w. test w.items) c.entries) ≡ Some (f a)))
       → IfSome o (λ a. P a × (lookup test v.entries ≡ Some (f a)))
   is_found test P f None h = tt
   is_found test P f (Some a) h = (h.0, ap (λ (x : LruCache (List ℕ) (List ℕ)). lookup test x.entries) (sym as_seen) ∙ sym (looked_up test c.entries) ∙ h.1)

@@ -6,14 +6,14 @@ use Prim.Native.Nat.compare
 use Rattle.std.specs.List.{list_any, AllByRecursion}
 use Rattle.std.proofs.lemmas.Bool.{le-leb}
 use Rattle.ts_codec.proofs.Truths.{both_true}
-use Rattle.ts_path.specs.Chain.{Question}
+use Rattle.ts_path.specs.Chain.{ChainQuestion}
 use Rattle.ts_path.specs.Verdict.{IsVerdict}
 use Rattle.ts_path.specs.declared.verdict.Verdict.{Verdict}
 use Rattle.ts_path.specs.declared.verdict.Verdict.TheVariants.{Valid, Invalid}
 use Rattle.ts_search.specs.Candidates.{AreDistinct, EndsAtLeaf, IsCandidate, issues}
-use Rattle.ts_search.specs.Search.{Search, IsAnswer, IsFirst, most}
-use Rattle.ts_search.specs.declared.answer.Answer.{Answer}
-use Rattle.ts_search.specs.declared.answer.Answer.TheVariants.{Found, NoPath, SearchLimit}
+use Rattle.ts_search.specs.Search.{Search, IsSearchAnswer, IsFirstChain, most}
+use Rattle.ts_search.specs.declared.answer.SearchAnswer.{SearchAnswer}
+use Rattle.ts_search.specs.declared.answer.SearchAnswer.TheVariants.{Found, NoPath, SearchLimit}
 use Rattle.ts_search.proofs.Takes.{length_map}
 use Rattle.ts_question.specs.Reply.{are_places, is_distinct}
 use Rattle.ts_cert.specs.declared.certificate.Cert.{Cert}
@@ -23,14 +23,14 @@ use Rattle.ts_path.specs.declared.anchor.Anchor.{Anchor}
 use Rattle.ts_path.specs.declared.inputs.Inputs.{Inputs}
 use Rattle.ts_revoke.specs.declared.crls.Crls.{Crls}
 use Rattle.ts_search.specs.View.{Check, search_in}
-use Rattle.ts_answer.specs.Trusted.{trusted_in}
-use Rattle.ts_answer.specs.declared.trusted.Trusted.{Trusted}
-use Rattle.ts_answer.specs.Ranges.{IsPlaced, IsAmong}
+use Rattle.ts_answer.specs.inside.Trusted.{trusted_in}
+use Rattle.ts_answer.specs.declared.trusted.TrustedAnchor.{TrustedAnchor}
+use Rattle.ts_answer.specs.inside.Ranges.{IsPlaced, IsAmong}
 use Rattle.ts_answer.proofs.Alls.{all_front, all_weaker, one_of}
 
 -- ---- positions
 
-pub is_placed : (q : Question) (v : Verdict) → length q.chain ≤ 16 → IsVerdict q v → IsPlaced v
+pub is_placed : (q : ChainQuestion) (v : Verdict) → length q.chain ≤ 16 → IsVerdict q v → IsPlaced v
 is_placed q (Valid policies) few is = tt
 is_placed q (Invalid position reason) few is =
     let stands = is.0.stands in
@@ -63,13 +63,16 @@ are_in_range issues count chain is =
 
 -- ---- what is found
 
-candidate : (s : Search) (candidates : List (List ℕ)) (number : ℕ) (chain : List ℕ) (policies : List (List ℕ)) → AllByRecursion (IsCandidate (issues s.certificates) (length s.certificates)) candidates → IsFirst s (take most candidates) number chain policies
+candidate : (s : Search) (candidates : List (List ℕ)) (number : ℕ) (chain : List ℕ)
+    (policies : List (List ℕ))
+    → AllByRecursion (IsCandidate (issues s.certificates) (length s.certificates)) candidates
+    → IsFirstChain s (take most candidates) number chain policies
     → IsCandidate (issues s.certificates) (length s.certificates) chain
 candidate s candidates number chain policies only is =
     let P : List ℕ → Type 0 = IsCandidate (issues s.certificates) (length s.certificates) in
     one_of P is.before chain is.after (subst (λ (l : List (List ℕ)). AllByRecursion P l) is.tried_are (all_front P most candidates only))
 
-pub is_among : (s : Search) (a : Answer) → length s.certificates ≤ 33 → IsAnswer s a → IsAmong (length s.anchors) a
+pub is_among : (s : Search) (a : SearchAnswer) → length s.certificates ≤ 33 → IsSearchAnswer s a → IsAmong (length s.anchors) a
 is_among s (Found number chain policies) few is =
     let c = candidate s is.candidates number chain.items _ is.are_candidates.only is.answers in
     let under = is.answers.under in
@@ -83,8 +86,10 @@ is_among s NoPath few is = tt
 is_among s SearchLimit few is = tt
 
 -- among the certificates of a question, and under the anchors that were lent
-pub among_anchors : (leaf : Cert) (pool : List Cert) (anchors : List Anchor) (inputs : Inputs) (crls : Crls) (good : Check) (all : List Cert) (trusted : List Trusted) (a : Answer) → leaf ∷ pool ≡ all → length all ≤ 33 → map anchor_in anchors ≡ map trusted_in trusted
-    → IsAnswer (search_in leaf pool anchors inputs crls good) a → IsAmong (length trusted) a
+pub among_anchors : (leaf : Cert) (pool : List Cert) (anchors : List Anchor) (inputs : Inputs)
+    (crls : Crls) (good : Check) (all : List Cert) (trusted : List TrustedAnchor) (a : SearchAnswer)
+    → leaf ∷ pool ≡ all → length all ≤ 33 → map anchor_in anchors ≡ map trusted_in trusted
+    → IsSearchAnswer (search_in leaf pool anchors inputs crls good) a → IsAmong (length trusted) a
 among_anchors leaf pool anchors inputs crls good all trusted a whole few same is =
     subst (λ n. IsAmong n a) (ap length same ∙ length_map trusted_in trusted)
     (is_among (search_in leaf pool anchors inputs crls good) a (omega (arith, ap length whole, length_map cert_in (leaf ∷ pool), few)) is)

@@ -9,7 +9,9 @@ map_more : {A B : Type 0} (f : A → B) (xs : List A) (y : A) → map f (xs ++ y
 map_more f [] y = refl
 map_more f (x ∷ xs) y = ap (λ l. f x ∷ l) (map_more f xs y)
 
-pub one_copied : (contents : List (Bor (List ℕ))) (oids : List (List ℕ)) (n : ℕ) (x : Bor (List ℕ)) (o : List ℕ) → map (λ c. c.now) (take n contents) ≡ take n oids → n < length contents → n < length oids → x.now ≡ o → o ≡ get_or oids n o
+pub one_copied : (contents : List (Bor (List ℕ))) (oids : List (List ℕ)) (n : ℕ) (x : Bor (List ℕ))
+    (o : List ℕ) → map (λ c. c.now) (take n contents) ≡ take n oids → n < length contents
+    → n < length oids → x.now ≡ o → o ≡ get_or oids n o
     → map (λ c. c.now) (take (n + 1) (slice_set contents n x)) ≡ take (n + 1) oids
 one_copied contents oids n x o before room more is from =
     ap (map (λ (c : Bor (List ℕ)). c.now)) (take_more_set contents n x room)

@@ -2,6 +2,6 @@
 use Rattle.std.specs.Prelude.{List}
 use Rattle.ts_store.specs.declared.command.Command.{Command}
 
-pub record Held (S : Type 0) : Type 0 where
+pub record TrustStore (S : Type 0) : Type 0 where
   pub check : S
   pub commands : List Command

@@ -3,9 +3,5 @@ pub mod Asked
 pub mod Reply
 pub mod Machine
 pub mod Held
-pub mod Cache
-pub mod CacheView
 pub mod Laws
-pub mod View
-pub mod Trusted
-pub mod Ranges
+pub mod inside

@@ -1,13 +1,13 @@
 -- The trust store as a state machine of the protocol: the answers after a list of commands.
 use Rattle.std.specs.Prelude.{◌≡◌, List, length}
 use Rattle.ts_search.specs.View.{Check}
-use Rattle.ts_question.specs.Question.{Asked}
-use Rattle.ts_question.specs.Reply.{Answered}
+use Rattle.ts_question.specs.Question.{StoreQuestion}
+use Rattle.ts_question.specs.Reply.{NumberedReply}
 use Rattle.ts_store.specs.declared.command.Command.{Command}
 use Rattle.ts_answer.specs.Reply.{IsReply}
 
 -- the answer says after how many commands it holds, and is the reply after these
-pub record IsAnswer (good : Check) (commands : List Command) (q : Asked)
-    (answer : Answered) : Type 0 where
+pub record IsAnswer (good : Check) (commands : List Command) (q : StoreQuestion)
+    (answer : NumberedReply) : Type 0 where
   pub k : answer.k ≡ length commands
   pub reply : IsReply good commands q answer.reply

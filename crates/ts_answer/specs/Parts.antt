@@ -11,7 +11,7 @@ use Rattle.ts_cert.specs.Table.{certificate_fault}
 use Rattle.ts_question.specs.declared.question.Target.{Target}
 use Rattle.ts_question.specs.declared.question.Target.TheVariants.{Chain, Search, Store, Log}
 use Rattle.ts_question.specs.declared.terms.Terms.{Terms}
-use Rattle.ts_question.specs.Question.{Asked}
+use Rattle.ts_question.specs.Question.{StoreQuestion}
 
 -- a part, 0 for an initial subtree and else the certificate, counted from 1; and the first rule
 -- that its octets break
@@ -46,7 +46,7 @@ unfoldable pub first_part : Terms → List (List ℕ) → Option Unreadable
 first_part terms certificates = first_subtree terms.permitted_subtrees or_else
     (first_subtree terms.excluded_subtrees or_else first_certificate 1 certificates)
 
-abbrev pub first_unreadable : Asked → Option Unreadable
+abbrev pub first_unreadable : StoreQuestion → Option Unreadable
 first_unreadable q = first_part q.terms (certificates_of q.target)
 
 -- ---- what is read
@@ -55,5 +55,5 @@ abbrev pub no_subtree : GeneralSubtree
 no_subtree = record { base = otherName []; minimum = []; maximum = None }
 
 -- the name at which a subtree begins; of octets that are none it says nothing
-abbrev pub base_of : List ℕ → GeneralName
-base_of octets = (result_unwrap_or (constraint_of octets) no_subtree).base
+abbrev pub subtree_base : List ℕ → GeneralName
+subtree_base octets = (result_unwrap_or (constraint_of octets) no_subtree).base

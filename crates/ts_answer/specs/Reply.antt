@@ -5,22 +5,18 @@ use Rattle.std.specs.Prelude.{◌≡◌, ℕ, suc, min, List, map, Option, Some,
 use Rattle.std.specs.List.{find}
 use Rattle.std.specs.Str.{bytes_eq}
 use Rattle.ts_shape.specs.Fault.{code_of}
-use Rattle.ts_path.specs.Conditions.{number_of}
+use Rattle.ts_reason.specs.View.{reason_in}
 use Rattle.ts_path.specs.Verdict as path
 use Rattle.ts_path.specs.declared.verdict.Verdict.{Verdict}
 use Rattle.ts_path.specs.declared.verdict.Verdict.TheVariants as verdict
-use Rattle.ts_path.specs.declared.reason.Reason.{Reason as PathReason}
 use Rattle.ts_search.specs.Search as search
 use Rattle.ts_search.specs.View.{Check}
-use Rattle.ts_search.specs.declared.answer.Answer.{Answer as SearchAnswer}
-use Rattle.ts_search.specs.declared.answer.Answer.TheVariants as found
-use Rattle.ts_question.specs.Question.{Asked}
-use Rattle.ts_question.specs.Reply as reply
+use Rattle.ts_search.specs.declared.answer.SearchAnswer.{SearchAnswer}
+use Rattle.ts_search.specs.declared.answer.SearchAnswer.TheVariants as found
+use Rattle.ts_question.specs.Question.{StoreQuestion}
 use Rattle.ts_question.specs.declared.terms.Terms.{Terms}
 use Rattle.ts_question.specs.declared.question.Target.{Target}
 use Rattle.ts_question.specs.declared.question.Target.TheVariants as target
-use Rattle.ts_question.specs.declared.reason.Reason.{Reason}
-use Rattle.ts_question.specs.declared.reason.Reason.TheVariants.{Revoked, CriticalExtension}
 use Rattle.ts_question.specs.declared.reply.Reply.{Reply}
 use Rattle.ts_question.specs.declared.reply.Reply.TheVariants.{Valid, Invalid, Found, NoPath}
 use Rattle.ts_question.specs.declared.reply.Reply.TheVariants.{SearchLimit, Malformed, NoAnchor}
@@ -36,27 +32,12 @@ use Rattle.ts_answer.specs.Parts.{Unreadable, first_unreadable}
 
 -- ---- what a verdict is as a reply
 
--- the code of a revocation, and the object identifier of an extension, where a reason says one
-abbrev pub code_in : Reason → Option ℕ
-code_in (Revoked code) = Some code
-code_in other = None
-
-abbrev pub oid_in : Reason → Option (List ℕ)
-oid_in (CriticalExtension oid) = Some oid
-oid_in other = None
-
--- the reasons have one number, and say the same code and object identifier
-pub record SaysReason (said : Reason) (reason : PathReason) : Type 0 where
-  pub number : reply.number_of said ≡ number_of (path.condition_of reason)
-  pub code : code_in said ≡ path.code_of reason
-  pub oid : oid_in said ≡ path.oid_of reason
-
 -- the reply says this verdict on a chain under the anchor of this id
 abbrev pub SaysVerdict : List ℕ → Verdict → Reply → Type 0
 SaysVerdict id (verdict.Valid policies) (Valid anchor said) =
-    (anchor ≡ id) × (said ≡ map (λ p. p.now) policies.items)
+    (anchor ≡ id) × (said ≡ map (λ p. p.content.now) policies.items)
 SaysVerdict id (verdict.Invalid position reason) (Invalid place said) =
-    (place ≡ position) × SaysReason said reason
+    (place ≡ position) × (said ≡ reason_in reason)
 SaysVerdict id verdict other = ⊥
 
 -- The reply says this answer of a search. The anchor is named by its id; places count from 1, the
@@ -64,7 +45,7 @@ SaysVerdict id verdict other = ⊥
 abbrev pub SaysSearch : List StoredAnchor → SearchAnswer → Reply → Type 0
 SaysSearch anchors (found.Found number chain policies) (Found anchor places said) =
     (slice_get (map (λ a. a.id) anchors) number ≡ Some anchor) × (places ≡ map suc chain.items)
-    × (said ≡ map (λ p. p.now) policies.items)
+    × (said ≡ map (λ p. p.content.now) policies.items)
 SaysSearch anchors found.NoPath NoPath = Unit {0}
 SaysSearch anchors found.SearchLimit SearchLimit = Unit {0}
 SaysSearch anchors answer other = ⊥
@@ -85,7 +66,7 @@ IsChainReply good tables terms certificates (Some stored) reply =
 
 abbrev pub IsSearchReply : Check → Tables → Terms → List (List ℕ) → Reply → Type 0
 IsSearchReply good tables terms certificates reply =
-    (a : SearchAnswer) × search.IsAnswer (search_of good tables terms certificates) a
+    (a : SearchAnswer) × search.IsSearchAnswer (search_of good tables terms certificates) a
     × SaysSearch tables.anchors a reply
 
 abbrev pub IsTargetReply : Check → Tables → Terms → Target → Reply → Type 0
@@ -96,20 +77,20 @@ IsTargetReply good tables terms (target.Search certificates) reply =
 IsTargetReply good tables terms other reply = ⊥
 
 -- a place that four octets can't hold is the greatest that they can; no certificate has one
-abbrev pub malformed : Unreadable → Reply
-malformed u = Malformed u.index (code_of u.fault.kind) (min u.fault.at 4294967295)
+abbrev pub malformed_reply : Unreadable → Reply
+malformed_reply u = Malformed u.index (code_of u.fault.kind) (min u.fault.at 4294967295)
 
-abbrev pub IsReplyBy : Check → Tables → Asked → Option Unreadable → Reply → Type 0
-IsReplyBy good tables q (Some u) reply = reply ≡ malformed u
+abbrev pub IsReplyBy : Check → Tables → StoreQuestion → Option Unreadable → Reply → Type 0
+IsReplyBy good tables q (Some u) reply = reply ≡ malformed_reply u
 IsReplyBy good tables q None reply = IsTargetReply good tables q.terms q.target reply
 
 -- of a page nothing is read of the question but its target
-abbrev pub IsReplyTo : Check → List Command → Asked → Target → Reply → Type 0
+abbrev pub IsReplyTo : Check → List Command → StoreQuestion → Target → Reply → Type 0
 IsReplyTo good commands q (target.Store from) reply =
     reply ≡ page from (listing (store_after commands))
 IsReplyTo good commands q (target.Log from) reply = reply ≡ page from (log_rows commands)
 IsReplyTo good commands q other reply =
     IsReplyBy good (store_after commands).tables q (first_unreadable q) reply
 
-abbrev pub IsReply : Check → List Command → Asked → Reply → Type 0
+abbrev pub IsReply : Check → List Command → StoreQuestion → Reply → Type 0
 IsReply good commands q reply = IsReplyTo good commands q q.target reply

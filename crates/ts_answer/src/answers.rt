@@ -6,11 +6,11 @@ ghost use Rattle.ts_history.specs.Outcome.{outcome_after};
 ghost use Rattle.ts_store.specs.Ids.{first_of};
 ghost use Rattle.ts_store.specs.Store.{store_after};
 ghost use Rattle.ts_question.specs.declared.reply.Reply.TheVariants.{NotYet};
-ghost use Rattle.ts_question.specs.Reply.{Fits, answered, is_answer};
+ghost use Rattle.ts_question.specs.Reply.{AnswerFits, numbered_reply, is_answer};
 ghost use Rattle.ts_answer.specs.Machine.{IsAnswer};
-ghost use Rattle.ts_answer.specs.Ranges.{InRange};
+ghost use Rattle.ts_answer.specs.inside.Ranges.{InRange};
 ghost use Rattle.ts_answer.specs.Reply.{IsReply};
-ghost use Rattle.ts_answer.specs.View.{IsOfTables};
+ghost use Rattle.ts_answer.specs.inside.View.{IsOfTables};
 ghost use Rattle.ts_listing.specs.Log.{log_rows};
 ghost use Rattle.ts_listing.specs.Page.{page};
 
@@ -20,9 +20,9 @@ use std::alloc::{AllocError, Global};
 use std::marker::Model;
 use ts_history::History;
 use ts_listing::{Entry, log_page, purposes_of};
-use ts_question::{Answer, MAX_POSITION, Question, Reply, Target};
+use ts_question::{Answer, Question, Reply, Target};
 use ts_sig::SignatureCheck;
-use ts_store::{Command, First, Outcome};
+use ts_store::{Command, FirstCommand, Outcome};
 
 /// A trust store that keeps the commands that it took, each with what it came to, and answers
 /// questions after any number of them. It caches the answers that were given last.
@@ -36,12 +36,12 @@ pub struct Answers<S: SignatureCheck> {
 }
 
 impl<S: SignatureCheck> Model for Answers<S> {
-    ghost use Rattle.ts_answer.specs.Held.{Held};
-    ghost use Rattle.ts_answer.specs.Cache.{AreCached};
-    ghost use Rattle.ts_answer.specs.Ranges.{AreTaken};
-    ghost use Rattle.ts_answer.specs.View.{AreEntries};
+    ghost use Rattle.ts_answer.specs.Held.{TrustStore};
+    ghost use Rattle.ts_answer.specs.inside.Cache.{AreCached};
+    ghost use Rattle.ts_answer.specs.inside.Ranges.{AreTaken};
+    ghost use Rattle.ts_answer.specs.inside.View.{AreEntries};
 
-    ghost Value = { Held S };
+    ghost Value = { TrustStore S };
 
     ghost view = { λ a. record { check = a.check; commands = a.history } };
 
@@ -51,9 +51,9 @@ impl<S: SignatureCheck> Model for Answers<S> {
 
 /// An answer, each field of which is in its range.
 fn answer_of(k: u32, reply: Reply) -> Answer
-    requires { is_answer (answered k reply) ≡ true }
-    ensures answer { result ≡ answered k reply }
-    ensures fits { Fits result }
+    requires { is_answer (numbered_reply k reply) ≡ true }
+    ensures answer { result ≡ numbered_reply k reply }
+    ensures fits { AnswerFits result }
 {
     match Answer::new(k, reply) {
         Ok(answer) => answer,
@@ -121,14 +121,14 @@ impl<S: SignatureCheck> Answers<S> {
     }
 
     /// The first command that had an id: its position, and what it came to.
-    pub fn settled(&self, id: &[u8; 16]) -> Option<First>
+    pub fn settled(&self, id: &[u8; 16]) -> Option<FirstCommand>
         ensures { result ≡ first_of id.now (store_after self.now.commands).ids }
     {
         self.history.first(id)
     }
 
     /// How many commands were taken: no more than there are positions.
-    fn taken(&self) -> u32
+    pub(crate) fn taken(&self) -> u32
         ensures count { result ≡ length self.now.commands }
         ensures few { result ≤ 1000000 }
     {
@@ -179,7 +179,7 @@ impl<S: SignatureCheck> Answers<S> {
         requires few { k ≤ 1000000 }
         ensures answer { IfOk result (IsAnswer (S.accepts self.now.check)
             (take k self.now.commands) question.now) }
-        ensures fits { IfOk result Fits }
+        ensures fits { IfOk result AnswerFits }
     {
         let reply = self.reply(k, question)?;
         Ok(answer_of(k, reply))
@@ -189,7 +189,7 @@ impl<S: SignatureCheck> Answers<S> {
     fn not_yet(&self, k: u32) -> Answer
         requires taken { length self.now.commands < k }
         requires few { k ≤ 1000000 }
-        ensures { result ≡ answered k (NotYet (length self.now.commands)) }
+        ensures { result ≡ numbered_reply k (NotYet (length self.now.commands)) }
     {
         let prefix = self.prefix();
         answer_of(k, Reply::NotYet { prefix })
@@ -201,25 +201,21 @@ impl<S: SignatureCheck> Answers<S> {
     ///
     /// # Errors
     ///
-    /// Out of memory, but never where fewer than k commands were taken; and for a k above 1,000,000,
-    /// which no answer can say and no question has.
+    /// Out of memory, but never where fewer than k commands were taken.
     pub fn answer(&mut self, k: u32, question: &Question) -> Result<Answer, AllocError>
+        requires { k ≤ 1000000 }
         ensures answer { k ≤ length self.old.commands
             → IfOk result (IsAnswer (S.accepts self.old.check)
             (take k self.old.commands) question.now) }
         ensures not_yet { length self.old.commands < k
             → IfOk result (λ answer. answer
             ≡ record { k = k; reply = NotYet (length self.old.commands) }) }
-        ensures at_once { length self.old.commands < k → k ≤ 1000000 → is_ok result ≡ true }
+        ensures at_once { length self.old.commands < k → is_ok result ≡ true }
         ensures unchanged { self.new ≡ self.old }
     {
         // `NotYet` is not cached: it is wrong as soon as the commands have come.
         if k > self.taken() {
-            return if k <= MAX_POSITION {
-                Ok(self.not_yet(k))
-            } else {
-                Err(AllocError)
-            };
+            return Ok(self.not_yet(k));
         }
         let Some(key) = key_of(self.alloc, k, question) else {
             return self.judge(k, question);

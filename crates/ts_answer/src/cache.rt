@@ -4,9 +4,9 @@ ghost use Rattle.std.specs.Prelude.{◌≡◌, ◌⊎◌, [], Some, IfSome, opti
 ghost use Rattle.std.specs.Map.{lookup};
 ghost use Rattle.std.specs.Str.{bytes_eq};
 ghost use Rattle.lru.specs.LruCache.{lru_cache, promoted, put_entries};
-ghost use Rattle.ts_question.specs.Question.{Fits as QuestionFits};
-ghost use Rattle.ts_question.specs.Reply.{Fits, encoding};
-ghost use Rattle.ts_answer.specs.Cache.{key_of};
+ghost use Rattle.ts_question.specs.Question.{QuestionFits};
+ghost use Rattle.ts_question.specs.Reply.{AnswerFits, answer_encoding};
+ghost use Rattle.ts_answer.specs.inside.Cache.{key_of};
 
 use lru::LruCache;
 use std::alloc::Global;
@@ -39,7 +39,7 @@ pub(crate) struct Cache {
 impl Model for Cache {
     ghost use Rattle.std.specs.Prelude.{ℕ, List};
     ghost use Rattle.lru.specs.LruCache.{LruCache as Pairs};
-    ghost use Rattle.ts_answer.specs.CacheView.{pairs_in};
+    ghost use Rattle.ts_answer.specs.inside.CacheView.{pairs_in};
 
     ghost Value = { Pairs (List ℕ) (List ℕ) };
 
@@ -105,9 +105,9 @@ fn room(alloc: Global) -> Option<LruCache<Vec<u8>, Vec<u8>>>
 
 /// The answer under a key. `None` where there is none, and where memory is refused.
 fn read_under(alloc: Global, pairs: &LruCache<Vec<u8>, Vec<u8>>, key: &[u8]) -> Option<Answer>
-    ensures { IfSome result (λ answer. Fits answer
+    ensures { IfSome result (λ answer. AnswerFits answer
         × (option_map (λ v. v.items) (lookup (λ v. bytes_eq key.now v.items) pairs.now.entries)
-        ≡ Some (encoding answer))) }
+        ≡ Some (answer_encoding answer))) }
 {
     let octets = pairs.peek(key)?;
     match Answer::read(alloc, octets) {
@@ -127,8 +127,8 @@ impl Cache {
     /// The answer under a key, which then is the one that was used last. `None` where there is
     /// none, and where memory is refused.
     pub(crate) fn find(&mut self, alloc: Global, key: &[u8]) -> Option<Answer>
-        ensures found { IfSome result (λ answer. Fits answer
-            × (lookup (bytes_eq key.now) self.old.entries ≡ Some (encoding answer))) }
+        ensures found { IfSome result (λ answer. AnswerFits answer
+            × (lookup (bytes_eq key.now) self.old.entries ≡ Some (answer_encoding answer))) }
         ensures order { self.new ≡ lru_cache
             (promoted (bytes_eq key.now) self.old.entries) self.old.cap }
     {
@@ -165,7 +165,8 @@ impl Cache {
     /// memory is refused.
     pub(crate) fn keep(&mut self, alloc: Global, key: Vec<u8>, answer: &Answer)
         ensures { (self.new ≡ self.old)
-            ⊎ (self.new ≡ lru_cache (put_entries bytes_eq self.old key.items (encoding answer.now))
+            ⊎ (self.new ≡ lru_cache (put_entries bytes_eq self.old key.items
+            (answer_encoding answer.now))
             self.old.cap) }
     {
         let Ok(octets) = answer.octets(alloc) else {

@@ -4,7 +4,7 @@ ghost use Rattle.std.specs.Prelude.{◌≡◌, ◌≤◌, true, List, ℕ, lengt
 ghost use Rattle.ts_cert.specs.CertView.{cert_in};
 ghost use Rattle.ts_path.specs.Verdict.{IsVerdict};
 ghost use Rattle.ts_path.specs.View.{anchor_in};
-ghost use Rattle.ts_search.specs.Search.{IsAnswer};
+ghost use Rattle.ts_search.specs.Search.{IsSearchAnswer};
 ghost use Rattle.ts_question.specs.declared.question.Target.TheVariants.{Chain, Search};
 ghost use Rattle.ts_constraint.specs.View.{bases_in};
 ghost use Rattle.ts_history.specs.Contents.{contents_of};
@@ -12,27 +12,28 @@ ghost use Rattle.ts_store.specs.Store.{store_after};
 ghost use Rattle.ts_store.specs.Tables.{Tables};
 ghost use Rattle.ts_store.specs.declared.command.Command.{Command};
 ghost use Rattle.ts_question.specs.Question.{is_target};
-ghost use Rattle.ts_answer.specs.Parts.{base_of, certificates_of, first_part};
+ghost use Rattle.ts_answer.specs.Parts.{subtree_base, certificates_of, first_part};
 ghost use Rattle.ts_answer.specs.Asked.{chain_of, question_of, search_of, trust_anchor};
-ghost use Rattle.ts_answer.specs.Ranges.{InRange, IsAmong, IsPlaced};
+ghost use Rattle.ts_answer.specs.inside.Ranges.{InRange, IsAmong, IsPlaced};
 ghost use Rattle.ts_answer.specs.Reply.{IsReply, IsReplyBy, IsTargetReply};
-ghost use Rattle.ts_answer.specs.Trusted.{trusted_in};
-ghost use Rattle.ts_answer.specs.View.{AreInputs, AreParts, IsJudged, IsOfTables};
+ghost use Rattle.ts_answer.specs.inside.Trusted.{trusted_in};
+ghost use Rattle.ts_answer.specs.inside.View.{AreInputs, AreParts, IsJudged, IsOfTables};
 
 use crate::fault::PartFault;
 use crate::parts::{Parts, read_parts};
 use crate::store::{anchor_of, anchors_of, lists_of, trusted_of};
-use crate::trusted::Trusted;
-use crate::verdicts::{malformed, reply_of_search, reply_of_verdict};
+use crate::trusted::TrustedAnchor;
+use crate::verdicts::{malformed_reply, reply_of_search, reply_of_verdict};
 use std::alloc::{AllocError, Global};
 use ts_cert::Cert;
+use ts_der::OidRef;
 use ts_history::Snapshot;
 use ts_listing::store_page;
 use ts_name::Subtree;
 use ts_path::{Anchor, Inputs, Verdict, validate};
 use ts_question::{OctetStrings, Question, Reply, Target, Terms};
 use ts_revoke::Crls;
-use ts_search::{Answer as SearchAnswer, search};
+use ts_search::{SearchAnswer as SearchAnswer, search};
 use ts_sig::SignatureCheck;
 use ts_time::Moment;
 
@@ -40,13 +41,13 @@ use ts_time::Moment;
 /// read.
 fn inputs_of<'a>(
     terms: &'a Terms,
-    policies: &'a [&'a [u8]],
+    policies: &'a [OidRef<'a>],
     permitted: &'a [Subtree<'a>],
     excluded: &'a [Subtree<'a>],
 ) -> Inputs<'a>
-    requires policies { map (λ p. p.now) policies.now ≡ terms.now.user_policies }
-    requires permitted { bases_in permitted.now ≡ map base_of terms.now.permitted_subtrees }
-    requires excluded { bases_in excluded.now ≡ map base_of terms.now.excluded_subtrees }
+    requires policies { map (λ p. p.content.now) policies.now ≡ terms.now.user_policies }
+    requires permitted { bases_in permitted.now ≡ map subtree_base terms.now.permitted_subtrees }
+    requires excluded { bases_in excluded.now ≡ map subtree_base terms.now.excluded_subtrees }
     ensures { AreInputs terms.now result }
 {
     let purpose = match &terms.purpose {
@@ -114,7 +115,7 @@ fn chain_reply<'a, S: SignatureCheck>(
     let Some(stored) = anchor_of(snapshot.anchors(), id) else {
         return Ok(Reply::NoAnchor);
     };
-    let trusted = Trusted::of(stored);
+    let trusted = TrustedAnchor::of(stored);
     let anchor = trusted.anchor();
     let inputs = inputs_of(terms, &parts.policies, &parts.permitted, &parts.excluded);
     let chain = parts.certificates.as_slice();
@@ -128,7 +129,7 @@ fn found_under<'a, S: SignatureCheck>(
     alloc: Global,
     check: &S,
     snapshot: &Snapshot<'_>,
-    trusted: &'a [Trusted<'a>],
+    trusted: &'a [TrustedAnchor<'a>],
     certificates: &[Cert<'a>],
     inputs: &Inputs<'a>,
 ) -> Result<SearchAnswer<'a>, AllocError>
@@ -137,7 +138,7 @@ fn found_under<'a, S: SignatureCheck>(
     ensures answer { (tables : Tables) (terms : _) (octets : _) → snapshot.now ≡ contents_of tables
         → AreInputs terms inputs.now → map trusted_in trusted.now ≡ map trust_anchor tables.anchors
         → map cert_in certificates.now ≡ chain_of octets
-        → IfOk result (IsAnswer (search_of (S.accepts check.now) tables terms octets)) }
+        → IfOk result (IsSearchAnswer (search_of (S.accepts check.now) tables terms octets)) }
     ensures among { IfOk result (IsAmong (length trusted.now)) }
 {
     let lists = lists_of(alloc, snapshot.complete())?;
@@ -209,7 +210,7 @@ fn target_reply<'a, S: SignatureCheck>(
             Target::Search { .. } => search_reply(alloc, check, snapshot, terms, parts),
             Target::Store { .. } | Target::Log { .. } => unreachable!(),
         },
-        Err(PartFault::Unreadable { index, fault }) => Ok(malformed(index, fault)),
+        Err(PartFault::Unreadable { index, fault }) => Ok(malformed_reply(index, fault)),
         Err(PartFault::Memory) => Err(AllocError),
     }
 }

@@ -3,12 +3,12 @@
 ghost use Rattle.std.specs.Prelude.{◌≡◌, ◌≤◌, ℕ, List};
 ghost use Rattle.ts_node.specs.Run.{AreAllowed, Group, Happening, IsStart};
 ghost use Rattle.ts_search.specs.View.{Check};
-ghost use Rattle.ts_question.specs.Question.{Asked, Fits};
-ghost use Rattle.ts_question.specs.Reply.{Answered};
+ghost use Rattle.ts_question.specs.Question.{StoreQuestion, QuestionFits};
+ghost use Rattle.ts_question.specs.Reply.{NumberedReply};
 ghost use Rattle.ts_store.specs.Octets.{octets_of};
 ghost use Rattle.ts_store.specs.declared.command.Command.{Command as Submitted};
 ghost use Rattle.ts_store.specs.declared.outcome.Outcome.{Outcome};
-ghost use Rattle.ts_answer.specs.Held.{Held};
+ghost use Rattle.ts_answer.specs.Held.{TrustStore};
 ghost use Rattle.ts_answer.specs.Laws.{AskTheSame, Headline, trust_store};
 ghost use Rattle.ts_answer.specs.Machine.{IsAnswer};
 
@@ -19,7 +19,8 @@ use ts_store::Command;
 
 /// A question has one answer after a list of commands, and so have two that ask the same.
 pub fn one_answer()
-    ensures { (good : Check) (commands : List Submitted) (q p : Asked) (a b : Answered) → Fits q
+    ensures { (good : Check) (commands : List Submitted) (q p : StoreQuestion) (a b : NumberedReply)
+        → QuestionFits q
         → AskTheSame q p → IsAnswer good commands q a → IsAnswer good commands p b → a ≡ b }
 {}
 
@@ -34,8 +35,10 @@ pub fn one_answer()
 /// of signatures at all of them; no message that was not sent is delivered; and each disk keeps to
 /// the laws of `ts_disk::Disk`.
 pub fn headline<D: Disk, S: SignatureCheck + Drop>()
-    ensures { (check : S) (n : ℕ) (start : Group D Submitted (Held S) Outcome Asked Answered)
-        (run : List (Happening D Submitted (Held S) Outcome Asked Answered)) → n ≤ 9
+    ensures { (check : S) (n : ℕ) (start : Group D Submitted (TrustStore S) Outcome StoreQuestion
+        NumberedReply)
+        (run : List (Happening D Submitted (TrustStore S) Outcome StoreQuestion NumberedReply))
+        → n ≤ 9
         → IsStart octets_of n start
         → AreAllowed octets_of trust_store (IsAnswer (S.accepts check)) n start run
         → Headline (S.accepts check) n start run }

@@ -22,9 +22,9 @@
 //! - [`Answers::push`]: `outcome`: that of the definition; `pushed`; `refused`: at an error nothing
 //!   changes; `check`.
 //! - [`Answers::settled`]: the first command of an id, and what it came to.
-//! - [`Answers::answer`]: `answer`: the reply after the first k commands (`IsAnswer`,
-//!   `specs/Machine`); `not_yet`: exactly where fewer were taken; `at_once`: then without an error;
-//!   `unchanged`.
+//! - [`Answers::answer`], for a k of at most 1,000,000: `answer`: the reply after the first k
+//!   commands (`IsAnswer`, `specs/Machine`); `not_yet`: exactly where fewer were taken; `at_once`:
+//!   then without an error; `unchanged`.
 //! - `impl ts_node::Machine<Command> for Answers<S>`: those of the trait: what a node is proved
 //!   over.
 //! - [`is_deliverable`]: whether a node takes a message.
@@ -32,19 +32,18 @@
 //! - [`laws::headline`]: over every run of nodes: agreement, and every answer at k is the one over
 //!   the store of the first k chosen commands.
 //!
-//! The answers that were given last are cached, each under its k and its question (`specs/Cache`):
-//! a question that is asked again at one k is answered without validating anything. No public
-//! clause names the cache: it is an invariant of `Answers` that each answer in it is the right one.
-//! Pages are not cached.
+//! The answers that were given last are cached, each under its k and its question
+//! (`specs/inside/Cache`): a question that is asked again at one k is answered without validating
+//! anything. No public clause names the cache: it is an invariant of `Answers` that each answer in
+//! it is the right one. Pages are not cached.
 //!
 //! Out of memory is answered as `AllocError`.
 //!
 //! # Not promised
 //!
 //! Only tested: that calls with ample memory answer. Neither proved nor tested: time, and that the
-//! cache is used. Not proved to be impossible, and answered as out of memory: an accepted policy
-//! that is no object identifier, and 2^32 accepted policies. A k above 1,000,000 is answered so too,
-//! since no answer can say it.
+//! cache is used. Not proved to be impossible, and answered as out of memory: 2^32 accepted
+//! policies.
 #![tactic(auto)]
 
 mod answers;

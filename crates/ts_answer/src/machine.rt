@@ -53,6 +53,8 @@ impl<S: SignatureCheck + Drop> Machine<Command> for Answers<S> {
     }
 
     fn answer(&mut self, k: u32, question: &Question) -> Result<Answer, AllocError> {
+        // There are no more commands than positions.
+        let _taken = self.taken();
         Answers::answer(self, k, question)
     }
 }

@@ -7,14 +7,14 @@ ghost use Rattle.ts_name.specs.SubtreeTable.{constraint_fault};
 ghost use Rattle.ts_cert.specs.CertView.{cert_in, certificate_in};
 ghost use Rattle.ts_cert.specs.Table.{certificate_fault};
 ghost use Rattle.ts_constraint.specs.View.{bases_in};
-ghost use Rattle.ts_answer.specs.Parts.{base_of, unreadable, first_subtree, first_certificate};
+ghost use Rattle.ts_answer.specs.Parts.{subtree_base, unreadable, first_subtree, first_certificate};
 ghost use Rattle.ts_answer.specs.Parts.{first_part};
-ghost use Rattle.ts_answer.specs.View.{AreParts, Says};
+ghost use Rattle.ts_answer.specs.inside.View.{AreParts, Says};
 
 use crate::fault::PartFault;
 use std::alloc::{AllocError, Global};
 use ts_cert::Cert;
-use ts_der::Oid;
+use ts_der::{Oid, OidRef};
 use ts_name::Subtree;
 use ts_question::{OctetStrings, Terms};
 
@@ -24,13 +24,13 @@ pub(crate) struct Parts<'a> {
     pub permitted: Vec<Subtree<'a>>,
     pub excluded: Vec<Subtree<'a>>,
     pub certificates: Vec<Cert<'a>>,
-    pub policies: Vec<&'a [u8]>,
+    pub policies: Vec<OidRef<'a>>,
 }
 
 /// An initial subtree.
 fn subtree_of(octets: &[u8]) -> Result<Subtree<'_>, PartFault>
     ensures read { IfOk result (λ subtree. (constraint_fault octets.now ≡ None)
-        × ((subtree_in subtree).base ≡ base_of octets.now)) }
+        × ((subtree_in subtree).base ≡ subtree_base octets.now)) }
     ensures fault { IfErr result (λ fault. Says fault
         (option_map (unreadable 0) (constraint_fault octets.now))) }
 {
@@ -43,7 +43,7 @@ fn subtree_of(octets: &[u8]) -> Result<Subtree<'_>, PartFault>
 /// Initial subtrees of one kind.
 fn subtrees_of(alloc: Global, strings: &[Vec<u8>]) -> Result<Vec<Subtree<'_>>, PartFault>
     ensures read { IfOk result (λ subtrees. (first_subtree (map (λ s. s.items) strings.now) ≡ None)
-        × (bases_in subtrees.items ≡ map base_of (map (λ s. s.items) strings.now))) }
+        × (bases_in subtrees.items ≡ map subtree_base (map (λ s. s.items) strings.now))) }
     ensures fault { IfErr result (λ fault. Says fault
         (first_subtree (map (λ s. s.items) strings.now))) }
 {
@@ -89,15 +89,15 @@ fn certificates_of(alloc: Global, strings: &[Vec<u8>]) -> Result<Vec<Cert<'_>>, 
     Ok(certificates)
 }
 
-/// The content octets of object identifiers.
-pub(crate) fn contents_of(alloc: Global, oids: &[Oid]) -> Result<Vec<&[u8]>, AllocError>
-    ensures { IfOk result (λ contents. map (λ p. p.now) contents.items ≡ oids.now) }
+/// Policies, borrowed.
+fn policies_of(alloc: Global, oids: &[Oid]) -> Result<Vec<OidRef<'_>>, AllocError>
+    ensures { IfOk result (λ policies. map (λ p. p.content.now) policies.items ≡ oids.now) }
 {
-    let mut contents = Vec::new(alloc);
+    let mut policies = Vec::new(alloc);
     for oid in oids {
-        contents.push(oid.as_ref().content)?;
+        policies.push(oid.as_ref())?;
     }
-    Ok(contents)
+    Ok(policies)
 }
 
 /// The parts of a question, or the first that can't be read.
@@ -115,7 +115,7 @@ pub(crate) fn read_parts<'a>(
     let permitted = subtrees_of(alloc, terms.permitted_subtrees.as_slice())?;
     let excluded = subtrees_of(alloc, terms.excluded_subtrees.as_slice())?;
     let certificates = certificates_of(alloc, certificates.as_slice())?;
-    let policies = contents_of(alloc, terms.user_policies.as_slice())?;
+    let policies = policies_of(alloc, terms.user_policies.as_slice())?;
     Ok(Parts {
         permitted,
         excluded,

@@ -6,9 +6,9 @@ ghost use Rattle.ts_history.specs.Contents.{anchor_in as lent_in};
 ghost use Rattle.ts_path.specs.View.{anchor_in};
 ghost use Rattle.ts_answer.specs.Asked.{lists_in, trust_anchor};
 ghost use Rattle.ts_answer.specs.Reply.{with_id};
-ghost use Rattle.ts_answer.specs.Trusted.{trusted_in};
+ghost use Rattle.ts_answer.specs.inside.Trusted.{trusted_in};
 
-use crate::trusted::Trusted;
+use crate::trusted::TrustedAnchor;
 use std::alloc::{AllocError, Global};
 use ts_crl::Crl;
 use ts_history::LentAnchor;
@@ -46,13 +46,13 @@ pub(crate) fn anchor_of<'a>(anchors: &[LentAnchor<'a>], id: &[u8; 32]) -> Option
 pub(crate) fn trusted_of<'a>(
     alloc: Global,
     stored: &[LentAnchor<'a>],
-) -> Result<Vec<Trusted<'a>>, AllocError>
+) -> Result<Vec<TrustedAnchor<'a>>, AllocError>
     ensures { IfOk result (λ trusted. map trusted_in trusted.items
         ≡ map trust_anchor (map lent_in stored.now)) }
 {
     let mut trusted = Vec::new(alloc);
     for anchor in stored {
-        trusted.push(Trusted::of(*anchor))?;
+        trusted.push(TrustedAnchor::of(*anchor))?;
     }
     Ok(trusted)
 }
@@ -60,7 +60,7 @@ pub(crate) fn trusted_of<'a>(
 /// The anchors, as path validation takes them.
 pub(crate) fn anchors_of<'a>(
     alloc: Global,
-    trusted: &'a [Trusted<'a>],
+    trusted: &'a [TrustedAnchor<'a>],
 ) -> Result<Vec<Anchor<'a>>, AllocError>
     ensures { IfOk result (λ anchors. map anchor_in anchors.items ≡ map trusted_in trusted.now) }
 {

@@ -14,7 +14,7 @@ use ts_store::MAX_PURPOSES;
 /// A trust anchor's certificate, and the content octets of its purposes, which are at most 16, if
 /// it is not trusted for any.
 #[derive(Clone, Copy)]
-pub(crate) struct Trusted<'a> {
+pub(crate) struct TrustedAnchor<'a> {
     cert: Cert<'a>,
     is_listed: bool,
     count: usize,
@@ -22,17 +22,17 @@ pub(crate) struct Trusted<'a> {
     ghost within: { count ≤ 16 },
 }
 
-impl<'a> Trusted<'a> {
-    ghost use Rattle.ts_answer.specs.Trusted.{purposes_in, trusted_in};
+impl<'a> TrustedAnchor<'a> {
+    ghost use Rattle.ts_answer.specs.inside.Trusted.{purposes_in, trusted_in};
 
     /// An anchor of the store. Its certificate is not read again.
-    pub fn of(stored: LentAnchor<'a>) -> Trusted<'a>
+    pub fn of(stored: LentAnchor<'a>) -> TrustedAnchor<'a>
         ensures { trusted_in result ≡ trust_anchor (lent_in stored.entry) }
     {
         let cert = stored.certificate.view();
         let mut contents: [&'a [u8]; MAX_PURPOSES] = [&[]; MAX_PURPOSES];
         let Some(oids) = stored.purposes.oids() else {
-            return Trusted {
+            return TrustedAnchor {
                 cert,
                 is_listed: false,
                 count: 0,
@@ -42,7 +42,7 @@ impl<'a> Trusted<'a> {
         for number in 0..oids.len() {
             contents[number] = oids[number].as_ref().content;
         }
-        Trusted {
+        TrustedAnchor {
             cert,
             is_listed: true,
             count: oids.len(),

@@ -5,20 +5,20 @@ ghost use Rattle.std.specs.List.{AllByRecursion};
 ghost use Rattle.ts_history.specs.Contents.{anchor_in as lent_in};
 ghost use Rattle.ts_question.specs.Reply.{are_countable};
 ghost use Rattle.ts_answer.specs.Parts.{unreadable};
-ghost use Rattle.ts_answer.specs.Ranges.{InRange, IsAmong, IsPlaced};
-ghost use Rattle.ts_answer.specs.Reply.{SaysReason, SaysSearch, SaysVerdict};
-ghost use Rattle.ts_answer.specs.Reply.{malformed as malformed_of};
+ghost use Rattle.ts_answer.specs.inside.Ranges.{InRange, IsAmong, IsPlaced};
+ghost use Rattle.ts_answer.specs.Reply.{SaysSearch, SaysVerdict};
+ghost use Rattle.ts_answer.specs.Reply.{malformed_reply as malformed_of};
 
 use std::alloc::{AllocError, Global};
 use ts_der::{Oid, OidRef};
 use ts_history::LentAnchor;
-use ts_path::{Reason as PathReason, Verdict};
-use ts_question::{Oids, Places, Reason, Reply};
-use ts_search::Answer as SearchAnswer;
+use ts_path::Verdict;
+use ts_question::{Oids, Places, Reply};
+use ts_search::SearchAnswer as SearchAnswer;
 use ts_shape::CertFault;
 
 /// The reply to a question of which a part can't be read.
-pub(crate) fn malformed(index: u8, fault: CertFault) -> Reply
+pub(crate) fn malformed_reply(index: u8, fault: CertFault) -> Reply
     ensures { result ≡ malformed_of (unreadable index fault) }
 {
     Reply::Malformed {
@@ -28,44 +28,10 @@ pub(crate) fn malformed(index: u8, fault: CertFault) -> Reply
     }
 }
 
-/// An object identifier with memory of its own.
-fn owned(alloc: Global, oid: OidRef<'_>) -> Result<Oid, AllocError>
-    ensures { IfOk result (λ copy. copy ≡ oid.entry.content.now) }
-{
-    Oid::from_oid(alloc, oid)
-}
-
-/// A reason, with memory of its own.
-fn reason_of(alloc: Global, reason: &PathReason<'_>) -> Result<Reason, AllocError>
-    ensures { IfOk result (λ said. SaysReason said reason.now) }
-{
-    Ok(match reason {
-        PathReason::AnchorPurpose => Reason::AnchorPurpose,
-        PathReason::Signature => Reason::Signature,
-        PathReason::TooEarly => Reason::TooEarly,
-        PathReason::Expired => Reason::Expired,
-        PathReason::Revoked(code) => Reason::Revoked(*code),
-        PathReason::Undetermined => Reason::Undetermined,
-        PathReason::IssuerName => Reason::IssuerName,
-        PathReason::UnsupportedConstraint => Reason::UnsupportedConstraint,
-        PathReason::NotPermitted => Reason::NotPermitted,
-        PathReason::Excluded => Reason::Excluded,
-        PathReason::PolicyRequired => Reason::PolicyRequired,
-        PathReason::MapsAny => Reason::MapsAny,
-        PathReason::NotCa => Reason::NotCa,
-        PathReason::PathLength => Reason::PathLength,
-        PathReason::KeyUsage => Reason::KeyUsage,
-        PathReason::CriticalExtension(oid) => Reason::CriticalExtension(owned(alloc, *oid)?),
-        PathReason::FinalPolicy => Reason::FinalPolicy,
-        PathReason::Purpose => Reason::Purpose,
-    })
-}
-
-/// Accepted policies, with memory of their own. Each is an object identifier, since it was read as
-/// one, and there are fewer than 2^32; no clause of a lower crate says so, and what is not so is
-/// refused as memory is.
-fn policies_of(alloc: Global, policies: &[&[u8]]) -> Result<Oids, AllocError>
-    ensures same { IfOk result (λ said. said ≡ map (λ p. p.now) policies.now) }
+/// Accepted policies, with memory of their own. There are fewer than 2^32; no clause of a lower
+/// crate says so, and more are refused as memory is.
+fn policies_of(alloc: Global, policies: &[OidRef<'_>]) -> Result<Oids, AllocError>
+    ensures same { IfOk result (λ said. said ≡ map (λ p. p.content.now) policies.now) }
     ensures few { IfOk result (λ said. are_countable said ≡ true) }
 {
     if policies.len() >= 1 << 32 {
@@ -73,10 +39,7 @@ fn policies_of(alloc: Global, policies: &[&[u8]]) -> Result<Oids, AllocError>
     }
     let mut oids = Vec::new(alloc);
     for policy in policies {
-        let Some(oid) = OidRef::from_content(policy) else {
-            return Err(AllocError);
-        };
-        oids.push(owned(alloc, oid)?)?;
+        oids.push(Oid::from_oid(alloc, *policy)?)?;
     }
     Ok(Oids::new(oids))
 }
@@ -97,7 +60,7 @@ pub(crate) fn reply_of_verdict(
             Ok(Reply::Valid { anchor, policies })
         }
         Verdict::Invalid { position, reason } => {
-            let reason = reason_of(alloc, &reason)?;
+            let reason = reason.to_owned(alloc)?;
             Ok(Reply::Invalid { position, reason })
         }
     }

@@ -26,8 +26,8 @@ delay_after (phases.Up since) delay now = if nat_le 1000 (now - since) then 50 e
 
 -- The next try is after the delay and, by chance, at most half of it more. The delay is doubled
 -- then, up to five seconds.
-abbrev pub lost : Dial → ℕ → ℕ → Dial
-lost dial now chance =
+abbrev pub after_loss : Dial → ℕ → ℕ → Dial
+after_loss dial now chance =
     let delay = delay_after dial.phase dial.delay now in
     record {
       phase = phases.Down (min (min (now + delay) last + chance % (delay / 2 + 1)) last);

@@ -3,7 +3,7 @@ use Rattle.std.specs.Prelude.{◌≡◌, ◌≢◌, ℕ, Bool, true, false, List
 use Rattle.std.specs.Prelude.{◌&&◌, ◌||◌, ◌*◌, length, is_some, nat_lt}
 use Rattle.std.specs.Prelude.{◌-◌, min, nat_eq, nat_le, Option, None, Some, if◌then◌else◌}
 use Rattle.ts_carrier.specs.declared.gate.Gate.{Gate}
-use Rattle.ts_carrier.specs.declared.gate.Wanted.{Wanted}
+use Rattle.ts_carrier.specs.declared.gate.WantedCommand.{WantedCommand}
 
 -- A whole frame that submits a command begins here: its kind, 10, follows the length of what
 -- follows, in four octets, and the version.
@@ -29,25 +29,25 @@ again_after tries now chance =
     min (min (now + patience tries) (2 ^ 64 - 1) + chance % patience tries) (2 ^ 64 - 1)
 
 -- the frame of the command, where it is time to propose it again
-abbrev pub due : Option Wanted → ℕ → Option (List ℕ)
+abbrev pub due : Option WantedCommand → ℕ → Option (List ℕ)
 due None now = None
 due (Some wanted) now = if nat_le wanted.again now then Some wanted.frame.items else None
 
 -- a round of it was refused: it is proposed again within 10 to 110 milliseconds
-abbrev pub hurried : Option Wanted → ℕ → ℕ → Option Wanted
-hurried None now chance = None
-hurried (Some wanted) now chance = Some (record wanted {
+abbrev pub after_refusal : Option WantedCommand → ℕ → ℕ → Option WantedCommand
+after_refusal None now chance = None
+after_refusal (Some wanted) now chance = Some (record wanted {
   again = min wanted.again
       (min (min (now + 10) (2 ^ 64 - 1) + chance % 100) (2 ^ 64 - 1));
 })
 
 -- it is given as much time again
-abbrev pub renewed : Option Wanted → ℕ → Option Wanted
-renewed None now = None
-renewed (Some wanted) now = Some (record wanted { since = now })
+abbrev pub with_new_time : Option WantedCommand → ℕ → Option WantedCommand
+with_new_time None now = None
+with_new_time (Some wanted) now = Some (record wanted { since = now })
 
 -- after it was proposed once more: it is given up after ten seconds
-abbrev pub after_try : Option Wanted → ℕ → ℕ → Option Wanted
+abbrev pub after_try : Option WantedCommand → ℕ → ℕ → Option WantedCommand
 after_try None now chance = None
 after_try (Some wanted) now chance = if nat_le 10000 (now - wanted.since) then None
     else Some (record {

@@ -15,10 +15,10 @@ with_frame frames frame = with_room frames ++ frame ∷ []
 
 -- frames are made ready, one after another, behind the octets that are ready, until 16,384 octets
 -- are; the frames that wait then
-abbrev pub filled : List ℕ → List (Vec ℕ) → List ℕ × List (Vec ℕ)
-filled ready [] = (ready, [])
-filled ready (frame ∷ frames) = if nat_le 16384 (length ready) then (ready, frame ∷ frames)
-    else filled (ready ++ frame.items) frames
+abbrev pub fill : List ℕ → List (Vec ℕ) → List ℕ × List (Vec ℕ)
+fill ready [] = (ready, [])
+fill ready (frame ∷ frames) = if nat_le 16384 (length ready) then (ready, frame ∷ frames)
+    else fill (ready ++ frame.items) frames
 
 -- all octets that wait: those that are being sent, and those of whole frames
 abbrev pub octets_in : Mailbox → List ℕ

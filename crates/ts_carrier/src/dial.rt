@@ -1,7 +1,7 @@
 //! When to connect to a peer.
 
 ghost use Rattle.std.specs.Prelude.{◌≡◌};
-ghost use Rattle.ts_carrier.specs.Dial.{delay_after, is_due, lost, new_dial};
+ghost use Rattle.ts_carrier.specs.Dial.{delay_after, is_due, after_loss, new_dial};
 ghost use Rattle.ts_carrier.specs.declared.dial.Phase.TheVariants as phases;
 
 /// The delay after a first failure, in milliseconds.
@@ -80,7 +80,7 @@ impl Dial {
     /// The connection is lost, or there was none: the next is tried after the delay and, by chance,
     /// up to half of it more; the delay is twice as long then, at most [`LONGEST_DELAY`].
     pub fn lose(&mut self, now: u64, chance: u64)
-        ensures { self.new ≡ lost self.old now chance }
+        ensures { self.new ≡ after_loss self.old now chance }
     {
         let delay = delay_after(*self, now);
         let more = chance % (delay / 2 + 1);

@@ -1,7 +1,7 @@
 //! The command of a client that is under way.
 
 ghost use Rattle.std.specs.Prelude.{◌≡◌, None, Some, option_map};
-ghost use Rattle.ts_carrier.specs.Gate.{after_try, again_after, due, hurried, renewed};
+ghost use Rattle.ts_carrier.specs.Gate.{after_try, again_after, due, after_refusal, with_new_time};
 ghost use Rattle.ts_carrier.specs.Gate.{is_held_back, is_submit};
 
 /// For how many milliseconds a command is proposed again, before it is given up.
@@ -23,7 +23,7 @@ const SUBMIT: u8 = 0x10;
 
 /// A command that was submitted and is not known to be chosen.
 #[derive(Drop)]
-pub struct Wanted {
+pub struct WantedCommand {
     /// The frame that submits it.
     pub frame: Vec<u8>,
     /// When it was submitted.
@@ -38,7 +38,7 @@ pub struct Wanted {
 /// taken.
 #[derive(Drop)]
 pub struct Gate {
-    wanted: Option<Wanted>,
+    wanted: Option<WantedCommand>,
     /// Until when none is taken.
     rests: u64,
 }
@@ -83,7 +83,7 @@ impl Gate {
     }
 
     /// The command that is under way.
-    pub fn wanted(&self) -> Option<&Wanted>
+    pub fn wanted(&self) -> Option<&WantedCommand>
         ensures { option_map (λ wanted. wanted.now) result ≡ self.now.wanted }
     {
         self.wanted.as_ref()
@@ -107,7 +107,7 @@ impl Gate {
         }) }
         ensures rests { self.new.rests ≡ self.old.rests }
     {
-        self.wanted = Some(Wanted {
+        self.wanted = Some(WantedCommand {
             frame,
             since: now,
             tries: 1,
@@ -128,14 +128,14 @@ impl Gate {
     /// A round of the command was refused, since another node has begun one: it is proposed again
     /// soon, by chance not at the moment when the other node does so.
     pub fn hurry(&mut self, now: u64, chance: u64)
-        ensures wanted { self.new.wanted ≡ hurried self.old.wanted now chance }
+        ensures wanted { self.new.wanted ≡ after_refusal self.old.wanted now chance }
         ensures rests { self.new.rests ≡ self.old.rests }
     {
         let Some(wanted) = self.wanted.take() else {
             return;
         };
         let soon = now.saturating_add(REFUSED).saturating_add(chance % MORE);
-        self.wanted = Some(Wanted {
+        self.wanted = Some(WantedCommand {
             frame: wanted.frame,
             since: wanted.since,
             tries: wanted.tries,
@@ -155,7 +155,7 @@ impl Gate {
             return;
         }
         let tries = wanted.tries.saturating_add(1);
-        self.wanted = Some(Wanted {
+        self.wanted = Some(WantedCommand {
             frame: wanted.frame,
             since: wanted.since,
             tries,
@@ -166,13 +166,13 @@ impl Gate {
     /// Other commands are chosen meanwhile, so that a majority runs: the command is given as much
     /// time again.
     pub fn renew(&mut self, now: u64)
-        ensures wanted { self.new.wanted ≡ renewed self.old.wanted now }
+        ensures wanted { self.new.wanted ≡ with_new_time self.old.wanted now }
         ensures rests { self.new.rests ≡ self.old.rests }
     {
         let Some(wanted) = self.wanted.take() else {
             return;
         };
-        self.wanted = Some(Wanted {
+        self.wanted = Some(WantedCommand {
             frame: wanted.frame,
             since: now,
             tries: wanted.tries,

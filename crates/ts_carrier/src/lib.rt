@@ -22,8 +22,8 @@
 //! - [`Mailbox`]: `put`: the frame is behind the others, of which the first has gone where there
 //!   were 256; where memory is refused, it alone is lost. `fill`: frames are made ready one after
 //!   another until 16,384 octets are, and no octet is lost, doubled or moved, whatever memory there
-//!   is. `sent`: so many have gone at the front. `cut`: what was being sent is lost, and whole frames
-//!   wait on (`specs/Mailbox`).
+//!   is. `sent`: so many have gone at the front. `cut`: what was being sent is lost, and whole
+//!   frames wait on (`specs/Mailbox`).
 //! - [`Dial`]: each call leaves the state of `specs/Dial`: the next try is after the delay and at
 //!   most half of it more; the delay is 50 ms, doubled at each failure up to 5 s, and 50 ms again
 //!   after a connection that lasted a second.
@@ -42,5 +42,5 @@ mod gate;
 mod mailbox;
 
 pub use dial::{Dial, FIRST_DELAY, LONGEST_DELAY, Phase};
-pub use gate::{Gate, LONGEST_WAY, Wanted};
+pub use gate::{Gate, LONGEST_WAY, WantedCommand};
 pub use mailbox::{MAX_FRAMES, Mailbox};

@@ -2,7 +2,7 @@
 
 ghost use Rattle.std.specs.Prelude.{◌≡◌, ◌≤◌, ◌<◌, ◌∷◌, ◌++◌, [], length, drop, nat_le};
 ghost use Rattle.std.specs.Prelude.{IfOk, OnOk, OnErr};
-ghost use Rattle.ts_carrier.specs.Mailbox.{OneReady, Same, filled, octets_in, with_frame};
+ghost use Rattle.ts_carrier.specs.Mailbox.{OneReady, Same, fill, octets_in, with_frame};
 ghost use Rattle.ts_carrier.specs.Mailbox.{with_room};
 
 use std::alloc::{AllocError, Global};
@@ -98,7 +98,7 @@ impl Mailbox {
     ///
     /// Memory that is refused. The frame and those behind it wait on.
     pub fn fill(&mut self) -> Result<(), AllocError>
-        ensures filled { OnOk result (filled self.old.ready self.old.frames.items
+        ensures filled { OnOk result (fill self.old.ready self.old.frames.items
             ≡ (self.new.ready, self.new.frames.items)) }
         ensures same { octets_in self.new ≡ octets_in self.old }
     {

@@ -37,7 +37,7 @@ use Rattle.ts_cert.specs.Certificate.{KeyInfo, Tbs, Certificate}
 use Rattle.ts_cert.specs.Rules.{OptionalFields, all_located, LocatedTbs, extensions_fault}
 use Rattle.ts_cert.specs.Encoding.{IsValidity, IsKeyInfo, IsUniqueIdentifier, IsTbs, IsSigned, IsCertificate, version_octets}
 use Rattle.ts_cert.specs.Version.{version_at}
-use Rattle.ts_cert.specs.Reading.{validity_at, key_at, unique_identifier_of, optional_fields_at, tbs_of, Unagreed, signed_of, agreed, unless_broken, whole_of, certificate_of}
+use Rattle.ts_cert.specs.Reading.{validity_at, key_at, unique_identifier_of, optional_fields_at, tbs_of, UncheckedCertificate, signed_of, with_one_algorithm, unless_broken, whole_of, certificate_of}
 use Rattle.ts_cert.proofs.FieldRules.{Has, KeepsRules, rules-kept, rules-again}
 use Rattle.ts_cert.proofs.KeyParts.{key-part, unique_identifier-format}
 use Rattle.ts_cert.proofs.Periods.{validity-part, version-found, version-again}
@@ -61,12 +61,16 @@ all_located-octets : (here : Place) (o : Option (List Located)) (after : Place) 
 unfolding optional_of
 all_located-octets here o after fits read = by_tag (begins_with 0xA3 here.rest) read
   where
-    by_tag : (b : Bool) → cond {A = Result (Option (List Located) × Place) Fault} b (element_at 0xA3 here >>= λ e. explicit_all_located_of e.0 >>= λ x. Ok (Some x, e.1)) (Ok (None, here)) ≡ Ok (o, after) → AllOctets (unwrap_or o [])
+    by_tag : (b : Bool) → cond {A = Result (Option (List Located) × Place) Fault} b
+        (element_at 0xA3 here >>= λ e. explicit_all_located_of e.0 >>= λ x. Ok (Some x, e.1))
+        (Ok (None, here)) ≡ Ok (o, after) → AllOctets (unwrap_or o [])
     by_tag true r =
         let e = bind_ok (element_at 0xA3 here) (λ e. explicit_all_located_of e.0 >>= λ x. Ok (Some x, e.1)) (o, after) r in
         let x = bind_ok (explicit_all_located_of e.0.0) (λ x. Ok (Some x, e.0.1)) (o, after) e.2 in
         let t = element-took 0xA3 here e.0.0 e.0.1 fits e.1 in
-        subst (λ (p : Option (List Located) × Place). AllOctets (unwrap_or p.0 [])) (ok_is {A = Option (List Located) × Place} {E = Fault} (Some x.0, e.0.1) (o, after) x.2) (explicit-octets e.0.0 x.0 t.inner x.1)
+        subst (λ (p : Option (List Located) × Place). AllOctets (unwrap_or p.0 []))
+        (ok_is {A = Option (List Located) × Place} {E = Fault} (Some x.0, e.0.1) (o, after) x.2)
+        (explicit-octets e.0.0 x.0 t.inner x.1)
     by_tag false r = subst (λ (p : Option (List Located) × Place). AllOctets (unwrap_or p.0 [])) (ok_is {A = Option (List Located) × Place} {E = Fault} (None, here) (o, after) r) tt
 
 -- the fields at the end: unique identifiers and extensions
@@ -302,7 +306,7 @@ tbs-again e t is =
 
 -- ---- what is signed, with its signature
 
-signed-found : (e : Tlv) (s : Unagreed) → AreOctets e.content → signed_of e ≡ Ok s
+signed-found : (e : Tlv) (s : UncheckedCertificate) → AreOctets e.content → signed_of e ≡ Ok s
     → IsSigned e.content s.certificate × AllOctets (all_located s.optional_fields) × Has s.certificate.tbsCertificate s.optional_fields
 unfolding signed_of
 signed-found e s fits read =
@@ -312,8 +316,21 @@ signed-found e s fits read =
     let a = bind_ok (der (algorithm_of i.0.0)) _ s i.2 in
     let b = bind_ok (der (bits_at i.0.1)) _ s a.2 in
     let d = bind_ok (der (end_at b.0.1)) _ s b.2 in
-    let made : Unagreed = record { certificate = record { tbs = t.0.0.whole; tbsCertificate = f.0.fields; signatureAlgorithm = a.0; signatureValue = b.0.0 }; identifier_at = i.0.0.at; optional_fields = f.0.optional_fields } in
-    let same : made ≡ s = ok_is {A = Unagreed} {E = CertFault} made s d.2 in
+    let made : UncheckedCertificate =
+    record {
+      certificate =
+          record {
+            tbs = t.0.0.whole;
+            tbsCertificate = f.0.fields;
+            signatureAlgorithm =
+                a.0;
+            signatureValue = b.0.0;
+          };
+      identifier_at = i.0.0.at;
+      optional_fields =
+          f.0.optional_fields;
+    } in
+    let same : made ≡ s = ok_is {A = UncheckedCertificate} {E = CertFault} made s d.2 in
     let tbs = element-took 0x30 (inside e) t.0.0 t.0.1 fits (der-ok (element_at 0x30 (inside e)) t.0 t.1) in
     let identifier = element-took 0x30 t.0.1 i.0.0 i.0.1 tbs.outer (der-ok (element_at 0x30 t.0.1) i.0 i.1) in
     let bits = took bits-part i.0.1 b.0.0 b.0.1 identifier.outer (der-ok (bits_at i.0.1) b.0 b.1) in
@@ -321,7 +338,7 @@ signed-found e s fits read =
     let at_identifier : t.0.1.rest ≡ i.0.0.whole ++ bits.0 = identifier.whole ∙ ap (λ (r : List ℕ). i.0.0.whole ++ r) at_bits in
     let algorithm = algorithm-value.found i.0.0 a.0 identifier.inner identifier.encoded (der-ok (algorithm_of i.0.0) a.0 a.1) in
     let found = tbs-found t.0.0 f.0 tbs.inner f.1 in
-    subst (λ (x : Unagreed). IsSigned e.content x.certificate × AllOctets (all_located x.optional_fields) × Has x.certificate.tbsCertificate x.optional_fields) same (
+    subst (λ (x : UncheckedCertificate). IsSigned e.content x.certificate × AllOctets (all_located x.optional_fields) × Has x.certificate.tbsCertificate x.optional_fields) same (
       record {
         identifier = i.0.0.whole;
         bits = bits.0;
@@ -351,14 +368,27 @@ signed-again e c is =
     let p2 : Place = record { rest = r2; at = p1.at + length (encode 0x30 a.content) } in
     let bits = bits-part.again p2 c.signatureValue is.bits [] is.signatureValue (sym (append-nil is.bits)) in
     let done = end-again (p2.at + length is.bits) in
-    let made : Tbs → List ℕ → Unagreed = λ f o. record { certificate = record { tbs = o; tbsCertificate = f; signatureAlgorithm = c.signatureAlgorithm; signatureValue = c.signatureValue }; identifier_at = e.start + length o; optional_fields = fields.0.optional_fields } in
+    let made : Tbs → List ℕ → UncheckedCertificate =
+    λ f o. record {
+      certificate =
+          record {
+            tbs = o;
+            tbsCertificate = f;
+            signatureAlgorithm =
+                c.signatureAlgorithm;
+            signatureValue = c.signatureValue;
+          };
+      identifier_at =
+          e.start + length o;
+      optional_fields = fields.0.optional_fields;
+    } in
     let read : signed_of e ≡ Ok (made fields.0.fields (encode 0x30 t.content)) = rw (first, fields.1, second, algorithm, bits, done) refl in
     (fields.0.optional_fields, read ∙ (ap (λ (f : Tbs). Ok (made f (encode 0x30 t.content))) fields.2 ∙ ap (λ (o : List ℕ). Ok (made c.tbsCertificate o)) (sym t.encoded)), fields.3)
 
 -- ---- certificates
 
-agreed-ok : (s : Unagreed) (c : Certificate) → agreed s ≡ Ok c → (s.certificate.tbsCertificate.signature.whole ≡ s.certificate.signatureAlgorithm.whole) × (s.certificate ≡ c)
-unfolding agreed
+agreed-ok : (s : UncheckedCertificate) (c : Certificate) → with_one_algorithm s ≡ Ok c → (s.certificate.tbsCertificate.signature.whole ≡ s.certificate.signatureAlgorithm.whole) × (s.certificate ≡ c)
+unfolding with_one_algorithm
 agreed-ok s c read = by_test (bytes_eq s.certificate.tbsCertificate.signature.whole s.certificate.signatureAlgorithm.whole) refl read
   where
     by_test : (b : Bool) → bytes_eq s.certificate.tbsCertificate.signature.whole s.certificate.signatureAlgorithm.whole ≡ b
@@ -382,14 +412,16 @@ whole-found octets c fits read =
     let e = bind_ok (der (element_at 0x30 here)) _ c read in
     let s = bind_ok (signed_of e.0.0) _ c e.2 in
     let d = bind_ok (der (end_at e.0.1)) _ c s.2 in
-    let g = bind_ok (agreed s.0) _ c d.2 in
+    let g = bind_ok (with_one_algorithm s.0) _ c d.2 in
     let t = element-took 0x30 here e.0.0 e.0.1 fits (der-ok (element_at 0x30 here) e.0 e.1) in
     let whole : octets ≡ e.0.0.whole = t.whole ∙ (ap (λ (r : List ℕ). e.0.0.whole ++ r) (end-ok e.0.1 d.0 (der-ok (end_at e.0.1) d.0 d.1)) ∙ append-nil e.0.0.whole) in
     let signed = signed-found e.0.0 s.0 t.inner s.1 in
     let is = signed.0 in
     let same = agreed-ok s.0 g.0 g.1 in
     let kept = kept-ok (extensions_fault s.0.certificate.tbsCertificate.version s.0.optional_fields) g.0 c g.2 in
-    let one = one-algorithm is.tbsCertificate.value.algorithm is.identifier s.0.certificate.tbsCertificate.signature s.0.certificate.signatureAlgorithm is.tbsCertificate.value.signature is.signatureAlgorithm same.0 in
+    let one = one-algorithm is.tbsCertificate.value.algorithm is.identifier
+    s.0.certificate.tbsCertificate.signature s.0.certificate.signatureAlgorithm
+    is.tbsCertificate.value.signature is.signatureAlgorithm same.0 in
     let rules = rules-kept s.0.certificate.tbsCertificate s.0.optional_fields signed.2 signed.1 kept.0 in
     subst (IsWhole octets) (same.1 ∙ kept.1) (record { content = e.0.0.content; fits = t.fits; encoded = whole ∙ t.encoded; value = is }, one, rules)
 
@@ -404,7 +436,7 @@ certificate-found octets c fits read = by_size (ltb 65536 (length octets)) refl 
         record { size = ltb-false 65536 (length octets) t; whole = w.0; agree = w.1; version = w.2.0; distinct = w.2.1; sound = w.2.2 }
 
 pub certificate-again : (octets : List ℕ) (c : Certificate) → IsCertificate octets c → certificate_of octets ≡ Ok c
-unfolding certificate_of whole_of agreed
+unfolding certificate_of whole_of with_one_algorithm
 certificate-again octets c is =
     let here : Place = record { rest = octets; at = 0 } in
     let w = is.whole in
@@ -412,7 +444,9 @@ certificate-again octets c is =
     let one = element-only here 0x30 w.content [] w.fits (w.encoded ∙ sym (append-nil (encode 0x30 w.content))) in
     let s = signed-again (encoded_at 0 0x30 w.content) c w.value in
     let d = end-again (0 + length (encode 0x30 w.content)) in
-    let agree : bytes_eq c.tbsCertificate.signature.whole c.signatureAlgorithm.whole ≡ true = (bytes_eq-Decides c.tbsCertificate.signature.whole c.signatureAlgorithm.whole).1 (ap (λ (a : Algorithm). a.whole) is.agree) in
+    let agree : bytes_eq c.tbsCertificate.signature.whole c.signatureAlgorithm.whole ≡ true =
+    (bytes_eq-Decides c.tbsCertificate.signature.whole c.signatureAlgorithm.whole).1
+    (ap (λ (a : Algorithm). a.whole) is.agree) in
     let rules : KeepsRules c.tbsCertificate = (is.version, is.distinct, is.sound) in
     let kept = rules-again c.tbsCertificate s.0 s.2 rules in
     rw (small, one, s.1, d, agree, kept) refl

@@ -19,7 +19,7 @@ use Rattle.ts_ext.specs.Stated.{IsStated, IsValueOf}
 use Rattle.ts_ext.proofs.Formats.{Format, value_of}
 use Rattle.ts_cert.specs.Certificate.{Certificate, Tbs, all_extensions}
 use Rattle.ts_cert.specs.Encoding.{IsCertificate}
-use Rattle.ts_cert.specs.Stated.{IsEncoded, known_extension, value_of_octets, stated}
+use Rattle.ts_cert.specs.Stated.{IsEncoded, known_extension, value_of_octets, stated_value}
 use Rattle.ts_cert.proofs.StatedValues.{find-sound}
 
 -- octets that encode a value are read as it
@@ -42,7 +42,7 @@ says_one {A} {value} {Is} format known octets v is =
 pub encoded : {A : Type 0} {value : Tlv → Result A Fault} {Is : List ℕ → A → Type 0} {shape : Shape} {rules : ContentRules} → Format value Is shape rules
     → (known : Known) (form : A → ExtValue) → known_at CertificateHolder (identifier_of known) ≡ Some known → ((o : List ℕ) (x : ExtValue) → IsContent known o x → (v : A) × (x ≡ form v) × Is o v)
     → (octets : List ℕ) (c : Certificate) → IsCertificate octets c → IsEncoded known value Is c.tbsCertificate
-unfolding stated
+unfolding stated_value
 encoded {A} {value} {Is} format known form here unformed octets c is = by_extension (known_extension known c.tbsCertificate) refl
   where
     by_extension : (o : Option Extension) → known_extension known c.tbsCertificate ≡ o

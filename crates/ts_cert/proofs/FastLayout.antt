@@ -1,7 +1,7 @@
 -- The layout of a certificate in the common form.
 use Rattle.std.proofs.Common.{◌≡◌, ℕ, ◌≤◌, List, [], ◌++◌, length, drop, Some, None, refl, sym, ap, subst, ◌∙◌, arith}
 use Rattle.std.proofs.lemmas.List.{append-nil, drop_all}
-use Rattle.ts_der.specs.declared.bounds.Bounds.{Bounds}
+use Rattle.ts_der.specs.declared.bounds.ContentBounds.{ContentBounds}
 use Rattle.ts_der.specs.Element.{encode}
 use Rattle.ts_der.specs.Stands.{HavePart, between, HasElement}
 use Rattle.ts_shape.specs.Fields.{Within, IsInteger, IsBits}
@@ -10,12 +10,13 @@ use Rattle.ts_field.specs.Algorithm.{IsAlgorithm}
 use Rattle.ts_cert.specs.declared.layout.Layout.{Layout}
 use Rattle.ts_cert.specs.declared.version.Version.TheVariants.{V3}
 use Rattle.ts_cert.specs.Certificate.{Tbs, Certificate}
-use Rattle.ts_cert.specs.Layout.{Spans, IsRepeated, IsVersion3, AreValidExplicit, AreLaidOut}
+use Rattle.ts_cert.specs.Layout.{AreLaidOut}
+use Rattle.ts_cert.specs.inside.Layout.{Spans, IsRepeated, IsVersion3, AreValidExplicit}
 use Rattle.ts_cert.specs.Encoding.{IsValidity, IsKeyInfo, IsTbs, IsSigned, IsCertificate, version_octets}
 use Rattle.ts_cert.proofs.Spanned.{one-part, joined}
 
 -- the parts of what is signed, one after another
-pub record Parts (octets : List ℕ) (l : Layout) (tbs : Bounds) : Type 0 where
+pub record Parts (octets : List ℕ) (l : Layout) (tbs : ContentBounds) : Type 0 where
   pub version : IsVersion3 octets tbs.start l.serial_number
   pub serial_number : Spans (Within 0x02 IsInteger) octets l.serial_number l.signature
   pub signature : Spans (Within 0x30 IsAlgorithm) octets l.signature l.issuer
@@ -26,7 +27,7 @@ pub record Parts (octets : List ℕ) (l : Layout) (tbs : Bounds) : Type 0 where
   pub extensions : Spans (Within 0xA3 AreValidExplicit) octets l.extensions l.signature_algorithm
 
 -- what they say
-unlocated : (octets : List ℕ) (l : Layout) (tbs : Bounds) → Parts octets l tbs → Tbs
+unlocated : (octets : List ℕ) (l : Layout) (tbs : ContentBounds) → Parts octets l tbs → Tbs
 unlocated octets l tbs p =
     record {
       version = V3;
@@ -41,7 +42,9 @@ unlocated octets l tbs p =
       extensions = Some p.extensions.value;
     }
 
-is-unlocated : (octets : List ℕ) (l : Layout) (tbs : Bounds) (p : Parts octets l tbs) → HavePart octets tbs.start (between octets tbs) tbs.end → l.signature_algorithm ≡ tbs.end → IsTbs (between octets tbs) (unlocated octets l tbs p)
+is-unlocated : (octets : List ℕ) (l : Layout) (tbs : ContentBounds) (p : Parts octets l tbs)
+    → HavePart octets tbs.start (between octets tbs) tbs.end → l.signature_algorithm ≡ tbs.end
+    → IsTbs (between octets tbs) (unlocated octets l tbs p)
 unfolding unlocated
 is-unlocated octets l tbs p inner ends =
     let e = p.extensions in
@@ -82,7 +85,7 @@ is-unlocated octets l tbs p inner ends =
     }
 
 -- and what is beside it
-pub record Beside (octets : List ℕ) (l : Layout) (whole tbs : Bounds) : Type 0 where
+pub record Beside (octets : List ℕ) (l : Layout) (whole tbs : ContentBounds) : Type 0 where
   pub outer : HasElement octets 0 0x30 whole
   pub inner : HasElement octets whole.start 0x30 tbs
   pub ends : l.signature_algorithm ≡ tbs.end
@@ -92,13 +95,13 @@ pub record Beside (octets : List ℕ) (l : Layout) (whole tbs : Bounds) : Type 0
   pub few : length octets ≤ 65536
 
 -- the layout says no more than that
-pub record IsPlain (l : Layout) (whole : Bounds) : Type 0 where
+pub record IsPlain (l : Layout) (whole : ContentBounds) : Type 0 where
   pub version : l.version ≡ V3
   pub tbs : l.tbs ≡ whole.start
   pub issuer_unique_id : l.issuer_unique_id ≡ l.extensions
   pub subject_unique_id : l.subject_unique_id ≡ l.extensions
 
-pub fast-laid-out : (octets : List ℕ) (l : Layout) (whole tbs : Bounds) → IsPlain l whole → Beside octets l whole tbs → Parts octets l tbs → AreLaidOut octets l
+pub fast-laid-out : (octets : List ℕ) (l : Layout) (whole tbs : ContentBounds) → IsPlain l whole → Beside octets l whole tbs → Parts octets l tbs → AreLaidOut octets l
 unfolding unlocated is-unlocated
 fast-laid-out octets l whole tbs plain b p =
     let fields : Tbs = unlocated octets l tbs p in
@@ -109,7 +112,10 @@ fast-laid-out octets l whole tbs plain b p =
     let same : p.signature.part ≡ identifier = one-part octets p.signature.part identifier l.signature l.issuer p.signature.here b.again.first in
     let at_tbs : HavePart octets whole.start signed l.signature_algorithm = subst (λ (n : ℕ). HavePart octets whole.start signed n) (sym b.ends) b.inner.whole in
     let behind = joined octets identifier bits l.signature_algorithm l.signature_value whole.end b.again.second b.signature_value.here in
-    let content = one-part octets (between octets whole) (signed ++ (identifier ++ bits)) whole.start whole.end b.outer.inner (joined octets signed (identifier ++ bits) whole.start l.signature_algorithm whole.end at_tbs behind) in
+    let content = one-part octets (between octets whole) (signed ++ (identifier ++ bits))
+    whole.start whole.end b.outer.inner
+    (joined octets signed (identifier ++ bits) whole.start l.signature_algorithm whole.end
+    at_tbs behind) in
     let none : drop whole.end octets ≡ [] = drop_all whole.end octets (omega (arith, b.all)) in
     let encoded : octets ≡ encode 0x30 (between octets whole) = b.outer.whole ∙ (ap (λ (r : List ℕ). encode 0x30 (between octets whole) ++ r) none ∙ append-nil (encode 0x30 (between octets whole))) in
     let cert : Certificate = record { tbs = signed; tbsCertificate = fields; signatureAlgorithm = p.signature.value; signatureValue = b.signature_value.value } in

@@ -46,8 +46,13 @@ pub record Has (t : Tbs) (l : OptionalFields) : Type 0 where
 version-fits : (v : Version) (t : Tbs) (l : OptionalFields) → Has t l → version_fault v l ≡ None → FitsVersion v t
 version-fits V1 t l has e =
     let first = neither (must_lack l.issuerUniqueID l.issuerUniqueID_at or_else must_lack l.subjectUniqueID l.subjectUniqueID_at) _ e in
-    let second = neither (must_lack l.issuerUniqueID l.issuerUniqueID_at) _ first.0 in
-    (has.issuer ∙ lacks l.issuerUniqueID l.issuerUniqueID_at second.0, has.subject ∙ lacks l.subjectUniqueID l.subjectUniqueID_at second.1, has.extensions ∙ none-unlocated l.extensions (lacks l.extensions l.extensions_at first.1))
+    let second = neither (must_lack l.issuerUniqueID l.issuerUniqueID_at) _ first.0 in (
+      has.issuer ∙ lacks l.issuerUniqueID l.issuerUniqueID_at second.0,
+      has.subject
+          ∙ lacks l.subjectUniqueID l.subjectUniqueID_at second.1,
+      has.extensions
+          ∙ none-unlocated l.extensions (lacks l.extensions l.extensions_at first.1),
+    )
 version-fits V2 t l has e = has.extensions ∙ none-unlocated l.extensions (lacks l.extensions l.extensions_at e)
 version-fits V3 t l has e = tt
 

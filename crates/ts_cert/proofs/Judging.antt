@@ -1,5 +1,7 @@
 -- What reading a certificate refuses is the first rule of the table that is broken.
-use Rattle.std.proofs.Common.{◌≡◌, ◌≢◌, ◌<◌, ◌≤◌, ltb, inl, inr, ℕ, ◌+◌, Bool, true, false, not, ◌||◌, cond, eqb, List, [], ◌∷◌, length, take, drop, Option, Some, None, Result, Ok, Err, refl, sym, ap, subst, ◌∙◌, arith}
+use Rattle.std.proofs.Common.{◌≡◌, ◌≢◌, ◌<◌, ◌≤◌, ltb, inl, inr, ℕ, ◌+◌, Bool, true, false, not}
+use Rattle.std.proofs.Common.{◌||◌, cond, eqb, List, [], ◌∷◌, length, take, drop, Option, Some}
+use Rattle.std.proofs.Common.{None, Result, Ok, Err, refl, sym, ap, subst, ◌∙◌, arith}
 use Rattle.std.specs.Prelude.{option_map, nat_lt}
 use Rattle.std.proofs.lemmas.Bool.{eqb-true, lt-ltb}
 use Rattle.std.proofs.lemmas.List.{length-take-le, length-drop}
@@ -29,18 +31,27 @@ use Rattle.ts_field.specs.Table.{algorithm_identifier, time, from_front}
 use Rattle.ts_field.proofs.Judging.{algorithm-judged, algorithm-reads, time-reads}
 use Rattle.ts_cert.specs.declared.version.Version.{Version}
 use Rattle.ts_cert.specs.declared.version.Version.TheVariants.{V1, V2, V3}
-use Rattle.ts_cert.specs.Version.{version_named, number_of, not_default, version_of, version_if, version_at}
+use Rattle.ts_cert.specs.Version.{version_named, version_integer, not_default, version_of, version_if, version_at}
 use Rattle.ts_cert.specs.Certificate.{Certificate}
 use Rattle.ts_cert.specs.Rules.{OptionalFields, LocatedTbs, extensions_fault}
-use Rattle.ts_cert.specs.Table.{validity, subject_public_key_info, is_version, version_rules, version_number, default_rules, version, unique_identifier, tbs_certificate, certificate, nth, signature_element, signature_algorithm_element, algorithms_fault, fields_fault, certificate_fault}
+use Rattle.ts_cert.specs.Table.{validity, subject_public_key_info, is_version, version_rules}
+use Rattle.ts_cert.specs.Table.{version_number, default_rules, version, unique_identifier}
+use Rattle.ts_cert.specs.Table.{tbs_certificate, certificate, nth, signature_element}
+use Rattle.ts_cert.specs.Table.{signature_algorithm_element, algorithms_fault, fields_fault}
+use Rattle.ts_cert.specs.Table.{certificate_fault}
 use Rattle.ts_shape.specs.Shape.{any, optional, tagged, no_other, Shape, nothing, plain, ◌then◌, ◌or_else◌, header_fault, row_fault, judge, der_rules, no_rules, one_rule}
 use Rattle.ts_shape.proofs.OptionalParts.{optional-judged}
 use Rattle.ts_ext.specs.Extension.{explicit_extensions, explicit_all_located_of}
 use Rattle.ts_ext.proofs.ExtensionParts.{explicit_all_located-judged}
 use Rattle.ts_cert.proofs.KeyParts.{unique_identifier-format}
-use Rattle.ts_shape.proofs.Judging.{Judged, refusal-judged, bind, no_more, no_less, Headed, element-judged, Reads, within-reads, then-judged, end-judged, under, ends, value-judged, Whatever, integer-reads, bits-reads, regroup}
+use Rattle.ts_shape.proofs.Judging.{Judged, refusal-judged, bind, no_more, no_less, Headed}
+use Rattle.ts_shape.proofs.Judging.{element-judged, Reads, within-reads, then-judged, end-judged}
+use Rattle.ts_shape.proofs.Judging.{under, ends, value-judged, Whatever, integer-reads, bits-reads}
+use Rattle.ts_shape.proofs.Judging.{regroup}
 use Rattle.ts_name.proofs.NameJudging.{name-reads}
-use Rattle.ts_cert.specs.Reading.{validity_of, validity_at, key_of, key_at, unique_identifier_of, optional_fields_at, tbs_of, Unagreed, signed_of, agreed, unless_broken, whole_of, certificate_of}
+use Rattle.ts_cert.specs.Reading.{validity_of, validity_at, key_of, key_at, unique_identifier_of}
+use Rattle.ts_cert.specs.Reading.{optional_fields_at, tbs_of, UncheckedCertificate, signed_of}
+use Rattle.ts_cert.specs.Reading.{with_one_algorithm, unless_broken, whole_of, certificate_of}
 
 -- ---- periods
 
@@ -131,20 +142,24 @@ named-first at (octet ∷ []) e = by_tests (eqb octet 0) (eqb octet 1) (eqb octe
     by_tests false false false t e = absurd cc
 named-first at (octet ∷ next ∷ content) e = absurd cc
 
-number-judged : (e : Tlv) → Judged (number_of e) (option_map (breaks e.at) (version_rules e.content)) (λ v. version_named e.at e.content ≡ Ok v)
-unfolding number_of
+number-judged : (e : Tlv) → Judged (version_integer e) (option_map (breaks e.at) (version_rules e.content)) (λ v. version_named e.at e.content ≡ Ok v)
+unfolding version_integer
 number-judged e =
     subst (λ o. Judged (der (value_at integer_rules (λ c. c) e) >>= λ content. version_named e.at content) o (λ v. version_named e.at e.content ≡ Ok v))
     (spread (der_rules integer_rules e.content) (one_rule VersionRule (λ c. not (is_version c)) e.content))
     (bind (der (value_at integer_rules (λ c. c) e)) (λ content. version_named e.at content) _ _ _ _ (value-judged integer_rules (λ c. c) e) (λ content p.
-    subst (λ (c : List ℕ). Judged (version_named e.at c) (option_map (breaks e.at) (one_rule VersionRule (λ c. not (is_version c)) e.content)) (λ v. version_named e.at e.content ≡ Ok v)) (sym p.0) (named-judged e.at e.content)))
+    subst (λ (c : List ℕ). Judged (version_named e.at c)
+    (option_map (breaks e.at) (one_rule VersionRule (λ c. not (is_version c)) e.content))
+    (λ v. version_named e.at e.content ≡ Ok v)) (sym p.0) (named-judged e.at e.content)))
   where
     spread : (a b : Option CertRule) → (option_map (breaks e.at) a or_else option_map (breaks e.at) b) ≡ option_map (breaks e.at) (a or_else b)
     spread (Some k) b = refl
     spread None b = refl
 
 -- a version that is read is not the default
-default-judged : (e : Tlv) (v : Version) → Headed (inside e) → (element_of (inside e)).tag ≡ 0x02 → version_named (element_of (inside e)).at (element_of (inside e)).content ≡ Ok v → (behind (inside e)).rest ≡ []
+default-judged : (e : Tlv) (v : Version) → Headed (inside e) → (element_of (inside e)).tag ≡ 0x02
+    → version_named (element_of (inside e)).at (element_of (inside e)).content ≡ Ok v
+    → (behind (inside e)).rest ≡ []
     → Judged (not_default e v) (option_map (breaks e.at) (default_rules e.content)) (λ v. Unit {0})
 default-judged e v h t n b = by_version v n
   where
@@ -154,7 +169,10 @@ default-judged e v h t n b = by_version v n
     names_first : bytes_eq e.content (encode 0x02 (0 ∷ [])) ≡ true → version_named (element_of (inside e)).at (element_of (inside e)).content ≡ Ok V1
     names_first same = rw (default-content e.content e.start ((bytes_eq-Decides e.content (encode 0x02 (0 ∷ []))).0 same)) refl
 
-    other : (b : Bool) → bytes_eq e.content (encode 0x02 (0 ∷ [])) ≡ b → (w : Version) → (let r : Result Version CertFault = Ok V1 in r ≡ Ok w → ⊥) → version_named (element_of (inside e)).at (element_of (inside e)).content ≡ Ok w → b ≡ false
+    other : (b : Bool) → bytes_eq e.content (encode 0x02 (0 ∷ [])) ≡ b → (w : Version)
+        → (let r : Result Version CertFault = Ok V1 in r ≡ Ok w → ⊥)
+        → version_named (element_of (inside e)).at (element_of (inside e)).content ≡ Ok w
+        → b ≡ false
     other true same w differs n = absurd (differs (sym (names_first same) ∙ n))
     other false same w differs n = refl
 
@@ -167,9 +185,9 @@ default-judged e v h t n b = by_version v n
 version-judged : (e : Tlv) → Judged (version_of e) (judge (version_number then nothing) (inside e) or_else option_map (breaks e.at) (default_rules e.content)) (λ v. Unit {0})
 unfolding version_of
 version-judged e =
-    subst (λ o. Judged (der (element_at 0x02 (inside e)) >>= λ number. number_of number.0 >>= λ version. der (end_at number.1) >>= λ done. not_default e version) o (λ v. Unit {0}))
+    subst (λ o. Judged (der (element_at 0x02 (inside e)) >>= λ number. version_integer number.0 >>= λ version. der (end_at number.1) >>= λ done. not_default e version) o (λ v. Unit {0}))
     (sym (regroup (header_fault (inside e) or_else row_fault version_number (element_of (inside e))) (judge nothing (behind (inside e))) (option_map (breaks e.at) (default_rules e.content))))
-    (element-judged 0x02 plain version_rules (inside e) number_of
+    (element-judged 0x02 plain version_rules (inside e) version_integer
     (λ number version. der (end_at number.1) >>= λ done. not_default e version) _ _ _ (number-judged (element_of (inside e)))
     (λ v h t n. end-judged (behind (inside e)) (λ done. not_default e v) _ _ (λ b. default-judged e v h t n b)))
 
@@ -197,7 +215,9 @@ version-then {B} others here f Q k = by_start (begins_with 0xA0 here.rest) k
 
     by_start : (b : Bool)
         → ((v : Version) (after : Place) → after ≡ cond b (behind here) here → Judged (f (v, after)) (judge others after) Q)
-        → Judged ((der (cond {A = Result (Option Tlv × Place) Fault} b (element_at 0xA0 here >>= λ x. Ok (Some x.0, x.1)) (Ok (None, here))) >>= λ e. version_if e.0 >>= λ version. beside e.1 version) >>= f)
+        → Judged ((der (cond {A = Result (Option Tlv × Place) Fault} b
+        (element_at 0xA0 here >>= λ x. Ok (Some x.0, x.1)) (Ok (None, here))) >>= λ e.
+        version_if e.0 >>= λ version. beside e.1 version) >>= f)
         (cond (not (b || false)) (judge others here) (header_fault here or_else row_fault version (element_of here) or_else judge others (behind here))) Q
     by_start true k =
         subst (λ r. Judged r (header_fault here or_else row_fault version (element_of here) or_else judge others (behind here)) Q) (sym (flat (element_at 0xA0 here)))
@@ -236,9 +256,14 @@ optional_fields-judged : (here : Place) → Judged (der (optional_fields_at here
 unfolding optional_fields_at
 optional_fields-judged here =
     under (optional_of 0x81 unique_identifier_of here) _ _ _
-    (optional-judged 0x81 plain (der_rules bits_rules) (optional (unique_identifier 0x82) then optional (tagged 0xA3 explicit_extensions no_rules no_other) then nothing) here unique_identifier_of _ Whatever _ unique-judged (λ issuer second.
+    (optional-judged 0x81 plain (der_rules bits_rules)
+    (optional (unique_identifier 0x82) then optional
+    (tagged 0xA3 explicit_extensions no_rules no_other) then nothing) here unique_identifier_of _
+    Whatever _ unique-judged (λ issuer second.
     under (optional_of 0x82 unique_identifier_of second) _ _ _
-    (optional-judged 0x82 plain (der_rules bits_rules) (optional (tagged 0xA3 explicit_extensions no_rules no_other) then nothing) second unique_identifier_of _ Whatever _ unique-judged (λ subject third.
+    (optional-judged 0x82 plain (der_rules bits_rules)
+    (optional (tagged 0xA3 explicit_extensions no_rules no_other) then nothing) second
+    unique_identifier_of _ Whatever _ unique-judged (λ subject third.
     under (optional_of 0xA3 explicit_all_located_of third) _ _ _
     (optional-judged 0xA3 explicit_extensions no_rules nothing third explicit_all_located_of _ Whatever _ explicit_all_located-judged (λ extensions after. ends after _ _ (λ h. tt)))))))
 
@@ -252,8 +277,13 @@ tbs-judged e =
     let at4 = behind at3 in
     let at5 = behind at4 in
     let at6 = behind at5 in
-    then-judged integer (algorithm_identifier then name then validity then name then subject_public_key_info then last_fields) at1 (λ here. der (integer_at here)) _ Whatever (SignedWith e) refl integer-reads (λ serial p1.
-    then-judged algorithm_identifier (name then validity then name then subject_public_key_info then last_fields) at2 (λ here. der (algorithm_at here)) _ (λ e a. a.whole ≡ e.whole) (SignedWith e) refl algorithm-reads (λ signature same.
+    then-judged integer (algorithm_identifier then name then validity then name then
+    subject_public_key_info then last_fields) at1 (λ here. der (integer_at here)) _ Whatever
+    (SignedWith e) refl integer-reads (λ serial p1.
+    then-judged algorithm_identifier
+    (name then validity then name then subject_public_key_info then last_fields) at2
+    (λ here. der (algorithm_at here)) _ (λ e a. a.whole ≡ e.whole)
+    (SignedWith e) refl algorithm-reads (λ signature same.
     then-judged name (validity then name then subject_public_key_info then last_fields) at3 (λ here. der (name_at here)) _ Whatever (SignedWith e) refl name-reads (λ issuer p3.
     then-judged validity (name then subject_public_key_info then last_fields) at4 (λ here. der (validity_at here)) _ Whatever (SignedWith e) refl validity-reads (λ period p4.
     then-judged name (subject_public_key_info then last_fields) at5 (λ here. der (name_at here)) _ Whatever (SignedWith e) refl name-reads (λ subject p5.
@@ -266,7 +296,7 @@ tbs-judged e =
     Whatever_read l = Unit {0}
 
 -- both algorithm identifiers, and the place of the outer one
-abbrev Identified : Tlv → Unagreed → Type 0
+abbrev Identified : Tlv → UncheckedCertificate → Type 0
 Identified e s =
     (s.certificate.tbsCertificate.signature.whole ≡ (nth (cond (begins_with 0xA0 (nth 0 (inside e)).content) 2 1) (inside (nth 0 (inside e)))).whole)
     × (s.certificate.signatureAlgorithm.whole ≡ (nth 1 (inside e)).whole)
@@ -282,16 +312,19 @@ unfolding signed_of
 signed-judged e =
     no_more _ _ _
     (element-judged 0x30 tbs_fields no_rules (inside e) tbs_of _ _ (SignedWith (element_of (inside e))) (Identified e) (tbs-judged (element_of (inside e))) (λ fields h1 t1 inner.
-    element-judged 0x30 (object_identifier then optional any then nothing) no_rules (behind (inside e)) (λ x. der (algorithm_of x)) _ _ (λ a. a.whole ≡ (element_of (behind (inside e))).whole) (Identified e) (algorithm-judged (element_of (behind (inside e)))) (λ algorithm h2 t2 outer.
+    element-judged 0x30 (object_identifier then optional any then nothing) no_rules
+    (behind (inside e)) (λ x. der (algorithm_of x)) _ _
+    (λ a. a.whole ≡ (element_of (behind (inside e))).whole) (Identified e)
+    (algorithm-judged (element_of (behind (inside e)))) (λ algorithm h2 t2 outer.
     then-judged bit_string nothing (behind (behind (inside e))) (λ here. der (bits_at here)) _ Whatever (Identified e) refl bits-reads (λ signature p.
     no_less _ _ _
     (end-judged (behind (behind (behind (inside e)))) _ None (Identified e) (λ done. (refl, (inner, outer, refl))))))))
 
 -- both algorithm identifiers are one
-agreed-judged : (octets : List ℕ) (shape : Unagreed) → Identified (element_of (from_front octets)) shape → Judged (agreed shape) (algorithms_fault octets) (λ c. Unit {0})
-unfolding agreed
+agreed-judged : (octets : List ℕ) (shape : UncheckedCertificate) → Identified (element_of (from_front octets)) shape → Judged (with_one_algorithm shape) (algorithms_fault octets) (λ c. Unit {0})
+unfolding with_one_algorithm
 agreed-judged octets shape same =
-    subst (λ (b : Bool). Judged (agreed shape) (cond b None (Some (breaks (signature_algorithm_element octets).at AlgorithmMismatch))) (λ c. Unit {0}))
+    subst (λ (b : Bool). Judged (with_one_algorithm shape) (cond b None (Some (breaks (signature_algorithm_element octets).at AlgorithmMismatch))) (λ c. Unit {0}))
     (ap (λ (xs : List ℕ). bytes_eq xs shape.certificate.signatureAlgorithm.whole) same.0 ∙ ap (λ (xs : List ℕ). bytes_eq (signature_element octets).whole xs) same.1)
     (by_test (bytes_eq shape.certificate.tbsCertificate.signature.whole shape.certificate.signatureAlgorithm.whole) (signature_algorithm_element octets).at same.2)
   where
@@ -305,7 +338,10 @@ rules-judged : (o : Option CertFault) (c : Certificate) → Judged (unless_broke
 rules-judged None c = (refl, tt)
 rules-judged (Some f) c = refl
 
-whole-judged : (octets : List ℕ) → Judged (whole_of octets) (judge (certificate then nothing) (from_front octets) or_else algorithms_fault octets or_else fields_fault (signed_of (nth 0 (from_front octets)))) (λ c. Unit {0})
+whole-judged : (octets : List ℕ)
+    → Judged (whole_of octets)
+    (judge (certificate then nothing) (from_front octets) or_else algorithms_fault octets or_else
+    fields_fault (signed_of (nth 0 (from_front octets)))) (λ c. Unit {0})
 unfolding whole_of
 whole-judged octets =
     subst (λ o. Judged (der (element_at 0x30 (from_front octets)) >>= λ e. signed_of e.0 >>= λ shape. der (end_at e.1) >>= λ done. rest shape) o (λ c. Unit {0}))
@@ -313,8 +349,14 @@ whole-judged octets =
     (element-judged 0x30 certificate_fields no_rules (from_front octets) signed_of (λ e shape. der (end_at e.1) >>= λ done. rest shape) _ IsRead (λ c. Unit {0})
     (itself (signed_of front) _ (Identified front) (signed-judged front)) (λ shape h t same.
     end-judged (behind (from_front octets)) (λ done. rest shape) (algorithms_fault octets or_else fields) (λ c. Unit {0}) (λ e.
-    bind (agreed shape) (λ c. unless_broken (extensions_fault shape.certificate.tbsCertificate.version shape.optional_fields) c) (algorithms_fault octets) fields (λ c. Unit {0}) (λ c. Unit {0}) (agreed-judged octets shape same.0) (λ c p.
-    subst (λ (r : Result Unagreed CertFault). Judged (unless_broken (extensions_fault shape.certificate.tbsCertificate.version shape.optional_fields) c) (fields_fault r) (λ c. Unit {0})) (sym same.1) (rules-judged _ c)))))
+    bind (with_one_algorithm shape)
+    (λ c. unless_broken (extensions_fault shape.certificate.tbsCertificate.version
+    shape.optional_fields) c) (algorithms_fault octets) fields (λ c. Unit {0}) (λ c. Unit {0})
+    (agreed-judged octets shape same.0) (λ c p.
+    subst (λ (r : Result UncheckedCertificate CertFault). Judged
+    (unless_broken (extensions_fault shape.certificate.tbsCertificate.version
+    shape.optional_fields) c) (fields_fault r) (λ c. Unit {0})) (sym same.1)
+    (rules-judged _ c)))))
   where
     front : Tlv
     front = element_of (from_front octets)
@@ -322,11 +364,11 @@ whole-judged octets =
     fields : Option CertFault
     fields = fields_fault (signed_of front)
 
-    IsRead : Unagreed → Type 0
+    IsRead : UncheckedCertificate → Type 0
     IsRead s = Identified front s × (signed_of front ≡ Ok s)
 
-    rest : Unagreed → Result Certificate CertFault
-    rest shape = agreed shape >>= λ c. unless_broken (extensions_fault shape.certificate.tbsCertificate.version shape.optional_fields) c
+    rest : UncheckedCertificate → Result Certificate CertFault
+    rest shape = with_one_algorithm shape >>= λ c. unless_broken (extensions_fault shape.certificate.tbsCertificate.version shape.optional_fields) c
 
     grouped : (a b c d : Option CertFault) → (a or_else b or_else c or_else d) ≡ (a or_else (b or_else (c or_else d)))
     grouped (Some x) b c d = refl

@@ -34,7 +34,15 @@ key-found e k fits w read =
     let first = took algorithm-part (inside e) a.0.0 a.0.1 fits a.1 in
     let second = took bits-part a.0.1 b.0.0 b.0.1 first.3 b.1 in
     let last : a.0.1.rest ≡ second.0 = second.2 ∙ (ap (λ (r : List ℕ). second.0 ++ r) (end-ok b.0.1 d.0 d.1) ∙ append-nil second.0) in
-    subst (λ (x : KeyInfo). IsKeyInfo e.content x) same (record { identifier = first.0; key = second.0; algorithm = first.1; subjectPublicKey = second.1; fields = first.2 ∙ ap (λ (r : List ℕ). first.0 ++ r) last })
+    subst (λ (x : KeyInfo). IsKeyInfo e.content x) same
+    (record {
+      identifier = first.0;
+      key = second.0;
+      algorithm = first.1;
+      subjectPublicKey =
+          second.1;
+      fields = first.2 ∙ ap (λ (r : List ℕ). first.0 ++ r) last;
+    })
 
 key-again : (e : Tlv) (k : KeyInfo) → e.whole ≡ encode 0x30 e.content → IsKeyInfo e.content k → key_of e ≡ Ok k
 unfolding key_of

@@ -12,7 +12,7 @@ use Rattle.ts_der.proofs.Standing.{encoded-out}
 use Rattle.ts_shape.specs.Fields.{Within}
 use Rattle.ts_der.proofs.Lanes.{between-at}
 use Rattle.ts_field.specs.Algorithm.{Algorithm, IsAlgorithm}
-use Rattle.ts_cert.specs.Layout.{Spans}
+use Rattle.ts_cert.specs.inside.Layout.{Spans}
 
 -- an octet between two bounds that are one
 same : (low high r : List ℕ) → lie_between low high r ≡ true → (i octet : ℕ) → get_or low i 0 ≡ octet → get_or high i 0 ≡ octet → i < length low → get_or r i 0 ≡ octet
@@ -155,7 +155,9 @@ is-ecdsa n lt =
 abbrev ecdsa_bound : ℕ → ℕ → List ℕ
 ecdsa_bound n more = 0x30 ∷ 0x0A ∷ 0x06 ∷ 0x08 ∷ 0x2A ∷ 0x86 ∷ 0x48 ∷ 0xCE ∷ 0x3D ∷ 0x04 ∷ 0x03 ∷ n ∷ more ∷ more ∷ more ∷ more ∷ []
 
-pub ecdsa-spans : (octets r : List ℕ) (at : ℕ) → r ≡ drop at octets → 16 ≤ length r → lie_between (ecdsa_bound 0 0) (ecdsa_bound 0x7F 0xFF) r ≡ true → Spans (Within 0x30 IsAlgorithm) octets at (at + 12)
+pub ecdsa-spans : (octets r : List ℕ) (at : ℕ) → r ≡ drop at octets → 16 ≤ length r
+    → lie_between (ecdsa_bound 0 0) (ecdsa_bound 0x7F 0xFF) r ≡ true
+    → Spans (Within 0x30 IsAlgorithm) octets at (at + 12)
 unfolding ecdsa_part
 ecdsa-spans octets r at is long h =
     let here = same (ecdsa_bound 0 0) (ecdsa_bound 0x7F 0xFF) r h in
@@ -236,7 +238,9 @@ is-curve size m curve count whole few =
 abbrev curve_bound : ℕ → ℕ → List ℕ
 curve_bound n more = 0x30 ∷ n ∷ 0x06 ∷ 0x07 ∷ 0x2A ∷ 0x86 ∷ 0x48 ∷ 0xCE ∷ 0x3D ∷ 0x02 ∷ 0x01 ∷ 0x06 ∷ more ∷ more ∷ more ∷ more ∷ []
 
-pub curve-spans : (octets r : List ℕ) (at size : ℕ) → r ≡ drop at octets → 16 ≤ length r → lie_between (curve_bound 0 0) (curve_bound 0x7F 0xFF) r ≡ true → size ≡ get_or r 1 0 → get_or r 12 0 + 11 ≡ size → size + 2 ≤ length r
+pub curve-spans : (octets r : List ℕ) (at size : ℕ) → r ≡ drop at octets → 16 ≤ length r
+    → lie_between (curve_bound 0 0) (curve_bound 0x7F 0xFF) r ≡ true → size ≡ get_or r 1 0
+    → get_or r 12 0 + 11 ≡ size → size + 2 ≤ length r
     → Spans (Within 0x30 IsAlgorithm) octets at (at + 2 + size)
 unfolding curve_part
 curve-spans octets r at size is long h size_is whole enough =
@@ -262,7 +266,10 @@ curve-spans octets r at size is long h size_is whole enough =
     record {
       value = curve_algorithm m curve;
       part = curve_part size m curve;
-      here = sym is ∙ (encoded-out r 0 13 13 refl (omega arith) ∙ rw (e0, sym size_is, e2, e3, e4, e5, e6, e7, e8, e9, e10, e11) (ap (λ (o : List ℕ). 0x30 ∷ size ∷ 0x06 ∷ 0x07 ∷ 0x2A ∷ 0x86 ∷ 0x48 ∷ 0xCE ∷ 0x3D ∷ 0x02 ∷ 0x01 ∷ 0x06 ∷ m ∷ o) (split ∙ ap (λ (o : List ℕ). curve ++ o) behind)));
+      here = sym is ∙ (encoded-out r 0 13 13 refl (omega arith)
+          ∙ rw (e0, sym size_is, e2, e3, e4, e5, e6, e7, e8, e9, e10, e11)
+          (ap (λ (o : List ℕ). 0x30 ∷ size ∷ 0x06 ∷ 0x07 ∷ 0x2A ∷ 0x86 ∷ 0x48 ∷ 0xCE ∷ 0x3D ∷ 0x02
+          ∷ 0x01 ∷ 0x06 ∷ m ∷ o) (split ∙ ap (λ (o : List ℕ). curve ++ o) behind)));
       encoded = is-curve size m curve count whole few;
       ends = omega (arith, enough, ap (λ (o : List ℕ). length o) is, length-drop at octets);
     }

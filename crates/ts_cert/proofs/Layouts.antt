@@ -30,7 +30,9 @@ passed {A} {tag} {Encodes} {x} {part} octets at to is more rest here passes =
 
 -- the same for one that may be absent
 pub if-passed : {A : Type 0} (tag : ℕ) (Encodes : List ℕ → A → Type 0) (x : Option A) (octets : List ℕ) (at to : ℕ) (part more rest : List ℕ) → IfAny tag Encodes part x
-    → drop at octets ≡ (part ++ more) ++ rest → begins_with tag (more ++ rest) ≡ false → PassesIf octets tag at to → (begins_with tag (drop at octets) ≡ false → to ≡ at) → drop to octets ≡ more ++ rest
+    → drop at octets ≡ (part ++ more) ++ rest → begins_with tag (more ++ rest) ≡ false
+    → PassesIf octets tag at to → (begins_with tag (drop at octets) ≡ false → to ≡ at)
+    → drop to octets ≡ more ++ rest
 if-passed tag Encodes None octets at to part more rest is here other present absent =
     let whole : drop at octets ≡ more ++ rest = here ∙ ap (λ (p : List ℕ). (p ++ more) ++ rest) is in
     ap (λ (n : ℕ). drop n octets) (absent (ap (λ (o : List ℕ). begins_with tag o) whole ∙ other)) ∙ whole
@@ -52,7 +54,10 @@ inside-element octets content rest at tag here =
     let digits : List ℕ = length_octets (length content) in
     let size : ℕ = length digits in
     ap (λ (n : ℕ). drop n octets) (omega arith)
-    ∙ (sym (drop-drop (suc size) at octets) ∙ (ap (λ (o : List ℕ). drop (suc size) o) here ∙ (ap (λ (o : List ℕ). drop size o) (append_assoc digits content rest) ∙ drop_at digits (content ++ rest) size refl)))
+    ∙ (sym (drop-drop (suc size) at octets)
+    ∙ (ap (λ (o : List ℕ). drop (suc size) o) here
+    ∙ (ap (λ (o : List ℕ). drop size o) (append_assoc digits content rest)
+    ∙ drop_at digits (content ++ rest) size refl)))
 
 -- what is behind it
 pub behind-element : (octets content rest : List ℕ) (at tag : ℕ) → drop at octets ≡ encode tag content ++ rest → drop (at + length (encode tag content)) octets ≡ rest

@@ -7,7 +7,7 @@ use Rattle.ts_der.specs.declared.fault.Fault.{Fault}
 use Rattle.ts_der.specs.Octets.{AreOctets}
 use Rattle.ts_der.specs.Element.{Place, Tlv, Fits, encode, length_octets, inside, encoded_at}
 use Rattle.ts_der.specs.Integer.{is_shortest, integer_rules}
-use Rattle.ts_der.specs.Reading.{begins_with, located, value_at, element_at, optional_at, end_at}
+use Rattle.ts_der.specs.Reading.{begins_with, at_element, value_at, element_at, optional_at, end_at}
 use Rattle.ts_der.specs.View.{StandsIfAny}
 use Rattle.ts_der.proofs.OctetLists.{AreOctets-part}
 use Rattle.ts_der.proofs.Laws.{bind_ok, ok_is, element-found, element-only, optional-found}
@@ -20,7 +20,7 @@ use Rattle.ts_cert.specs.declared.version.Version.TheVariants.{V1, V2, V3}
 use Rattle.ts_shape.specs.Fault.{der, breaks}
 use Rattle.ts_shape.specs.Fields.{Within}
 use Rattle.ts_cert.specs.Encoding.{IsValidity, version_octets}
-use Rattle.ts_cert.specs.Version.{version_named, number_of, not_default, version_of, version_if, version_at}
+use Rattle.ts_cert.specs.Version.{version_named, version_integer, not_default, version_of, version_if, version_at}
 use Rattle.ts_shape.proofs.Endings.{end-ok, end-again}
 use Rattle.ts_shape.proofs.Parts.{Part, within-part, took, der-ok}
 use Rattle.ts_cert.specs.declared.validity.Validity.{Validity}
@@ -38,7 +38,15 @@ validity-found e v fits w read =
     let first = took time-part (inside e) a.0.0 a.0.1 fits a.1 in
     let second = took time-part a.0.1 b.0.0 b.0.1 first.3 b.1 in
     let last : a.0.1.rest ≡ second.0 = second.2 ∙ (ap (λ (r : List ℕ). second.0 ++ r) (end-ok b.0.1 d.0 d.1) ∙ append-nil second.0) in
-    subst (λ (x : Validity). IsValidity e.content x) same (record { before = first.0; after = second.0; not_before = first.1; not_after = second.1; fields = first.2 ∙ ap (λ (r : List ℕ). first.0 ++ r) last })
+    subst (λ (x : Validity). IsValidity e.content x) same
+    (record {
+      before = first.0;
+      after = second.0;
+      not_before = first.1;
+      not_after =
+          second.1;
+      fields = first.2 ∙ ap (λ (r : List ℕ). first.0 ++ r) last;
+    })
 
 validity-again : (e : Tlv) (v : Validity) → e.whole ≡ encode 0x30 e.content → IsValidity e.content v → validity_of e ≡ Ok v
 unfolding validity_of
@@ -61,7 +69,7 @@ version_content V1 = 0 ∷ []
 version_content V2 = 1 ∷ []
 version_content V3 = 2 ∷ []
 
-integer-ok : (b : Bool) (at : ℕ) (x y : List ℕ) → der (located at (Rattle.ts_der.specs.Rules.value_unless (cond (not b) (Some IntegerForm) None) x)) ≡ Ok y → x ≡ y
+integer-ok : (b : Bool) (at : ℕ) (x y : List ℕ) → der (at_element at (Rattle.ts_der.specs.Rules.value_unless (cond (not b) (Some IntegerForm) None) x)) ≡ Ok y → x ≡ y
 integer-ok true at x y e = ok_is {E = CertFault} x y e
 integer-ok false at x y e = absurd cc
 
@@ -71,14 +79,17 @@ named-found at [] v e = absurd cc
 named-found at (o ∷ p ∷ content) v e = absurd cc
 named-found at (o ∷ []) v e = by_number (eqb o 0) (eqb o 1) (eqb o 2) refl refl refl e
   where
-    by_number : (a b c : Bool) → eqb o 0 ≡ a → eqb o 1 ≡ b → eqb o 2 ≡ c → cond {A = Result Version CertFault} a (Ok V1) (cond b (Ok V2) (cond c (Ok V3) (Err (breaks at VersionRule)))) ≡ Ok v → o ∷ [] ≡ version_content v
+    by_number : (a b c : Bool) → eqb o 0 ≡ a → eqb o 1 ≡ b → eqb o 2 ≡ c
+        → cond {A = Result Version CertFault} a (Ok V1)
+        (cond b (Ok V2) (cond c (Ok V3) (Err (breaks at VersionRule)))) ≡ Ok v → o
+        ∷ [] ≡ version_content v
     by_number true b c x y z e = ap (λ (n : ℕ). n ∷ []) (eqb-true o 0 x) ∙ ap version_content (ok_is {E = CertFault} V1 v e)
     by_number false true c x y z e = ap (λ (n : ℕ). n ∷ []) (eqb-true o 1 y) ∙ ap version_content (ok_is {E = CertFault} V2 v e)
     by_number false false true x y z e = ap (λ (n : ℕ). n ∷ []) (eqb-true o 2 z) ∙ ap version_content (ok_is {E = CertFault} V3 v e)
     by_number false false false x y z e = absurd cc
 
-number-found : (e : Tlv) (v : Version) → number_of e ≡ Ok v → e.content ≡ version_content v
-unfolding number_of
+number-found : (e : Tlv) (v : Version) → version_integer e ≡ Ok v → e.content ≡ version_content v
+unfolding version_integer
 number-found e v read =
     let b = bind_ok (der (value_at integer_rules (λ c. c) e)) (λ content. version_named e.at content) v read in
     integer-ok (is_shortest e.content) e.at e.content b.0 b.1 ∙ named-found e.at b.0 v b.2
@@ -93,7 +104,7 @@ version_of-found : (e : Tlv) (v : Version) → AreOctets e.content → version_o
 unfolding version_of
 version_of-found e v fits read =
     let n = bind_ok (der (element_at 0x02 (inside e))) _ v read in
-    let k = bind_ok (number_of n.0.0) _ v n.2 in
+    let k = bind_ok (version_integer n.0.0) _ v n.2 in
     let d = bind_ok (der (end_at n.0.1)) _ v k.2 in
     let s = element-found 0x02 (inside e) n.0.0 n.0.1 fits (der-ok (element_at 0x02 (inside e)) n.0 n.1) in
     let stands = s.0 in
@@ -116,7 +127,9 @@ version-found here v after fits read =
     by_option : (x : Option Tlv) (behind : Place) (u : Version) → StandsIfAny here x 0xA0 behind → version_if x ≡ Ok u → here.rest ≡ version_octets u ++ behind.rest
     by_option None behind u stands r = ap (λ (p : Place). p.rest) (sym stands) ∙ ap (λ (w : Version). version_octets w ++ behind.rest) (ok_is {E = CertFault} V1 u r)
     by_option (Some e) behind u stands r =
-        let whole : here.rest ≡ encode 0xA0 e.content ++ behind.rest = stands.0.whole ∙ (ap (λ (w : List ℕ). w ++ behind.rest) stands.0.encoded ∙ ap (λ (t : ℕ). encode t e.content ++ behind.rest) stands.1) in
+        let whole : here.rest ≡ encode 0xA0 e.content ++ behind.rest = stands.0.whole
+        ∙ (ap (λ (w : List ℕ). w ++ behind.rest) stands.0.encoded
+        ∙ ap (λ (t : ℕ). encode t e.content ++ behind.rest) stands.1) in
         let inner = AreOctets-part 0xA0 e.content behind.rest (subst AreOctets whole fits) in
         whole ∙ ap (λ (w : List ℕ). w ++ behind.rest) (version_of-found e u inner r)
 
@@ -127,7 +140,10 @@ pub fits_version : (n : ℕ) → Fits 0xA0 (encode 0x02 (n ∷ []))
 unfolding length_octets
 fits_version n = record { octet = omega arith; low = omega arith; short = omega arith }
 
-present-again : (n at : ℕ) (v : Version) → not_default (encoded_at at 0xA0 (encode 0x02 (n ∷ []))) v ≡ Ok v → number_of (encoded_at (encoded_at at 0xA0 (encode 0x02 (n ∷ []))).start 0x02 (n ∷ [])) ≡ Ok v
+present-again : (n at : ℕ) (v : Version)
+    → not_default (encoded_at at 0xA0 (encode 0x02 (n ∷ []))) v ≡ Ok v
+    → version_integer (encoded_at (encoded_at at 0xA0 (encode 0x02 (n ∷ []))).start 0x02 (n ∷ [])) ≡
+    Ok v
     → version_of (encoded_at at 0xA0 (encode 0x02 (n ∷ []))) ≡ Ok v
 unfolding version_of
 present-again n at v keeps number =
@@ -137,7 +153,7 @@ present-again n at v keeps number =
 
 pub version-again : (here : Place) (v : Version) (rest : List ℕ) → begins_with 0xA0 rest ≡ false → here.rest ≡ version_octets v ++ rest
     → version_at here ≡ Ok (v, record { rest = rest; at = here.at + length (version_octets v) })
-unfolding version_at optional_at number_of
+unfolding version_at optional_at version_integer
 version-again here V1 rest b e =
     let none : begins_with 0xA0 here.rest ≡ false = ap (begins_with 0xA0) e ∙ b in
     let at : here ≡ record { rest = rest; at = here.at + 0 } = ap (λ (r : List ℕ). record { rest = r; at = here.at }) e ∙ ap (λ (n : ℕ). record { rest = rest; at = n }) (omega arith) in

@@ -1,7 +1,7 @@
 -- Values between two offsets.
 use Rattle.std.proofs.Common.{◌≡◌, ℕ, ℤ, ◌+◌, ◌-◌, ◌≤◌, List, [], ◌∷◌, ◌++◌, length, take, drop, get_or, refl, sym, ap, subst, ◌∙◌, append_assoc, arith}
 use Rattle.std.proofs.lemmas.List.{append_cancel_right, length-append, length-drop, length-take-le, take_at, take-append-drop, drop-drop}
-use Rattle.ts_der.specs.declared.bounds.Bounds.{Bounds}
+use Rattle.ts_der.specs.declared.bounds.ContentBounds.{ContentBounds}
 use Rattle.ts_der.specs.Element.{encode, length_octets}
 use Rattle.ts_der.specs.Stands.{HavePart, between, HasElement}
 use Rattle.ts_shape.specs.Fields.{Within}
@@ -10,10 +10,12 @@ use Rattle.ts_der.proofs.Lengths.{length_octets-short}
 use Rattle.ts_time.specs.Text.{IsUtc}
 use Rattle.ts_field.specs.declared.time.TimeForm.TheVariants.{Utc}
 use Rattle.ts_field.specs.Time.{IsTime}
-use Rattle.ts_cert.specs.Layout.{Spans, IsRepeated, IsVersion3}
+use Rattle.ts_cert.specs.inside.Layout.{Spans, IsRepeated, IsVersion3}
 
 -- an element whose content encodes a value
-pub spans : {A : Type 0} (tag : ℕ) (Encodes : List ℕ → A → Type 0) (octets : List ℕ) (at : ℕ) (b : Bounds) (x : A) → HasElement octets at tag b → Encodes (between octets b) x → Spans (Within tag Encodes) octets at b.end
+pub spans : {A : Type 0} (tag : ℕ) (Encodes : List ℕ → A → Type 0) (octets : List ℕ) (at : ℕ)
+    (b : ContentBounds) (x : A) → HasElement octets at tag b → Encodes (between octets b) x
+    → Spans (Within tag Encodes) octets at b.end
 spans tag Encodes octets at b x has is =
     record {
       value = x;
@@ -32,7 +34,9 @@ pub joined : (octets a b : List ℕ) (from mid to : ℕ) → HavePart octets fro
 joined octets a b from mid to first second = first ∙ (ap (λ (r : List ℕ). a ++ r) second ∙ sym (append_assoc a b (drop to octets)))
 
 -- the content of an element of which all is known
-pub content-joined : (octets a b : List ℕ) (tag at mid to : ℕ) (bounds : Bounds) → HasElement octets at tag bounds → HavePart octets bounds.start a mid → HavePart octets mid b to → to ≡ bounds.end → between octets bounds ≡ a ++ b
+pub content-joined : (octets a b : List ℕ) (tag at mid to : ℕ) (bounds : ContentBounds)
+    → HasElement octets at tag bounds → HavePart octets bounds.start a mid
+    → HavePart octets mid b to → to ≡ bounds.end → between octets bounds ≡ a ++ b
 content-joined octets a b tag at mid to bounds has first second same =
     one-part octets (between octets bounds) (a ++ b) bounds.start bounds.end has.inner (joined octets a b bounds.start mid bounds.end first (subst (λ (n : ℕ). HavePart octets mid b n) same second))
 
@@ -48,9 +52,14 @@ part-between octets a from to here begins ends =
     ap (λ (o : List ℕ). take (to - from) o) here ∙ take_at a (drop to octets) (to - from) size
 
 -- an element that is all of the content of another
-pub content-alone : (octets : List ℕ) (at tag other : ℕ) (outer inner : Bounds) → HasElement octets at tag outer → HasElement octets outer.start other inner → inner.end ≡ outer.end → between octets outer ≡ encode other (between octets inner)
+pub content-alone : (octets : List ℕ) (at tag other : ℕ) (outer inner : ContentBounds)
+    → HasElement octets at tag outer → HasElement octets outer.start other inner
+    → inner.end ≡ outer.end → between octets outer ≡ encode other (between octets inner)
 content-alone octets at tag other outer inner has is same =
-    one-part octets (between octets outer) (encode other (between octets inner)) outer.start outer.end has.inner (subst (λ (n : ℕ). HavePart octets outer.start (encode other (between octets inner)) n) same is.whole)
+    one-part octets (between octets outer) (encode other (between octets inner)) outer.start
+    outer.end has.inner (subst
+    (λ (n : ℕ). HavePart octets outer.start (encode other (between octets inner)) n) same
+    is.whole)
 
 -- octets of which the first is known
 pub first-octet : (octets : List ℕ) (octet : ℕ) → 1 ≤ length octets → get_or octets 0 0 ≡ octet → octets ≡ octet ∷ drop 1 octets
@@ -70,7 +79,10 @@ again Encodes octets at from to end is twice =
     }
 
 -- octets that are equal to those between two offsets
-pub repeated : (octets : List ℕ) (at from to : ℕ) → take (to - from) (drop at octets) ≡ take (to - from) (drop from octets) → from ≤ to → to ≤ length octets → at + (to - from) ≤ length octets → IsRepeated octets at from to (at + (to - from))
+pub repeated : (octets : List ℕ) (at from to : ℕ)
+    → take (to - from) (drop at octets) ≡ take (to - from) (drop from octets) → from ≤ to
+    → to ≤ length octets → at + (to - from) ≤ length octets
+    → IsRepeated octets at from to (at + (to - from))
 repeated octets at from to same ordered within ends =
     record {
       part = take (to - from) (drop from octets);
@@ -80,7 +92,9 @@ repeated octets at from to same ordered within ends =
     }
 
 -- version 3, octet by octet
-pub version-3 : (octets r : List ℕ) (at : ℕ) → r ≡ drop at octets → 5 ≤ length r → get_or r 0 0 ≡ 0xA0 → get_or r 1 0 ≡ 3 → get_or r 2 0 ≡ 0x02 → get_or r 3 0 ≡ 1 → get_or r 4 0 ≡ 2 → IsVersion3 octets at (at + 5)
+pub version-3 : (octets r : List ℕ) (at : ℕ) → r ≡ drop at octets → 5 ≤ length r
+    → get_or r 0 0 ≡ 0xA0 → get_or r 1 0 ≡ 3 → get_or r 2 0 ≡ 0x02 → get_or r 3 0 ≡ 1
+    → get_or r 4 0 ≡ 2 → IsVersion3 octets at (at + 5)
 unfolding length_octets
 version-3 octets r at is long first second third fourth fifth =
     let here : r ≡ get_or r 0 0 ∷ get_or r 1 0 ∷ get_or r 2 0 ∷ get_or r 3 0 ∷ get_or r 4 0 ∷ drop 5 r = encoded-out r 0 5 5 refl long in
@@ -91,12 +105,17 @@ version-3 octets r at is long first second third fourth fifth =
     }
 
 -- a UTCTime, by its first two octets and its text
-pub utc-span : (octets r text : List ℕ) (at : ℕ) (moment : ℤ) → r ≡ drop at octets → 2 ≤ length r → get_or r 0 0 ≡ 0x17 → get_or r 1 0 ≡ 13 → text ≡ drop 2 r → 16 ≤ length text → IsUtc (take 13 text) moment → Spans IsTime octets at (at + 15)
+pub utc-span : (octets r text : List ℕ) (at : ℕ) (moment : ℤ) → r ≡ drop at octets → 2 ≤ length r
+    → get_or r 0 0 ≡ 0x17 → get_or r 1 0 ≡ 13 → text ≡ drop 2 r → 16 ≤ length text
+    → IsUtc (take 13 text) moment → Spans IsTime octets at (at + 15)
 utc-span octets r text at moment is long first second is_text many utc =
     let here : r ≡ get_or r 0 0 ∷ get_or r 1 0 ∷ drop 2 r = encoded-out r 0 2 2 refl long in
     let size : length (take 13 text) ≡ 13 = length-take-le 13 text (omega arith) in
     let split : drop 2 r ≡ take 13 text ++ drop 13 text = sym (take-append-drop 13 text ∙ is_text) in
-    let behind : drop 13 text ≡ drop (at + 15) octets = ap (λ (o : List ℕ). drop 13 o) (is_text ∙ ap (λ (o : List ℕ). drop 2 o) is) ∙ (ap (λ (o : List ℕ). drop 13 o) (drop-drop 2 at octets) ∙ (drop-drop 13 (at + 2) octets ∙ ap (λ (n : ℕ). drop n octets) (omega arith))) in
+    let behind : drop 13 text ≡ drop (at + 15) octets =
+    ap (λ (o : List ℕ). drop 13 o) (is_text ∙ ap (λ (o : List ℕ). drop 2 o) is)
+    ∙ (ap (λ (o : List ℕ). drop 13 o) (drop-drop 2 at octets)
+    ∙ (drop-drop 13 (at + 2) octets ∙ ap (λ (n : ℕ). drop n octets) (omega arith))) in
     record {
       value = record { form = Utc; moment = moment };
       part = 0x17 ∷ 13 ∷ take 13 text;

@@ -21,7 +21,7 @@ use Rattle.ts_ext.specs.declared.extension.Extension.{Extension as Lent}
 use Rattle.ts_ext.specs.declared.known.Holder.{Holder}
 use Rattle.ts_ext.specs.declared.known.Holder.TheVariants.{Certificate as CertificateHolder}
 use Rattle.ts_ext.specs.declared.known.Known.{Known}
-use Rattle.ts_ext.specs.AuthorityKey.{octets_of}
+use Rattle.ts_ext.specs.AuthorityKey.{content_octets_of}
 use Rattle.ts_ext.specs.Ext.{ExtValue, IsExt, layout_of, read_as, content_of, ext_of}
 use Rattle.ts_ext.specs.Extension.{Extension, Located, unlocated}
 use Rattle.ts_ext.specs.ExtensionView.{located_as}
@@ -33,7 +33,7 @@ use Rattle.ts_ext.proofs.Exts.{ext-again}
 use Rattle.ts_ext.proofs.KeyAndConstraints.{octets-format}
 use Rattle.ts_cert.specs.Certificate.{Tbs, all_extensions, Certificate}
 use Rattle.ts_cert.specs.Encoding.{IsCertificate}
-use Rattle.ts_cert.specs.Stated.{known_extension, value_of_octets, stated}
+use Rattle.ts_cert.specs.Stated.{known_extension, value_of_octets, stated_value}
 
 -- ---- elements with one content
 
@@ -117,44 +117,49 @@ octets-stated : {A : Type 0} {value : Tlv → Result A Fault} {Is : List ℕ →
 octets-stated format known x = alone-content format (layout_of known).tag (now x) (encoded_at 0 0x04 x.content.now) x.octets refl
 
 -- where no element stands nothing is read
-pub stated_none : {A : Type 0} (known : Known) (value : Tlv → Result A Fault) (t : Tbs) → stated known octets_of t ≡ None → stated known value t ≡ None
-unfolding stated
+pub stated_none : {A : Type 0} (known : Known) (value : Tlv → Result A Fault) (t : Tbs) → stated_value known content_octets_of t ≡ None → stated_value known value t ≡ None
+unfolding stated_value
 stated_none {A} known value t none = sym (by_extension (known_extension known t) (sym none))
   where
-    by_octets : (s : Tlv) (r : Result Tlv Fault) → alone (tagged_as (layout_of known).tag) s ≡ r → None ≡ result_ok (r >>= octets_of) → None ≡ result_ok (r >>= value)
+    by_octets : (s : Tlv) (r : Result Tlv Fault) → alone (tagged_as (layout_of known).tag) s ≡ r → None ≡ result_ok (r >>= content_octets_of) → None ≡ result_ok (r >>= value)
     by_octets s (Ok y) is e = absurd cc
     by_octets s (Err d) is e = refl
 
-    by_extension : (o : Option Extension) → None ≡ option_and_then (λ x. value_of_octets known octets_of x.extnValue) o → None ≡ option_and_then (λ x. value_of_octets known value x.extnValue) o
+    by_extension : (o : Option Extension)
+        → None ≡ option_and_then (λ x. value_of_octets known content_octets_of x.extnValue) o
+        → None ≡ option_and_then (λ x. value_of_octets known value x.extnValue) o
     by_extension None e = refl
     by_extension (Some x) e =
         let s = encoded_at 0 0x04 x.extnValue in
-        by_octets s (alone (tagged_as (layout_of known).tag) s) refl (e ∙ alone-then (layout_of known).tag octets_of s) ∙ sym (alone-then (layout_of known).tag value s)
+        by_octets s (alone (tagged_as (layout_of known).tag) s) refl (e ∙ alone-then (layout_of known).tag content_octets_of s) ∙ sym (alone-then (layout_of known).tag value s)
 
 -- else what is read of its element, wherever that stands
 stated-some : {A : Type 0} {value : Tlv → Result A Fault} {Is : List ℕ → A → Type 0} {shape : Shape} {rules : ContentRules} → Format value Is shape rules
-    → (known : Known) (t : Tbs) (e : Tlv) → AreOctets e.content → Some e.content ≡ stated known octets_of t → result_ok (value e) ≡ stated known value t
-unfolding stated
+    → (known : Known) (t : Tbs) (e : Tlv) → AreOctets e.content → Some e.content ≡ stated_value known content_octets_of t → result_ok (value e) ≡ stated_value known value t
+unfolding stated_value
 stated-some {A} {value} format known t e fits some = by_extension (known_extension known t) some
   where
-    by_octets : (r : Result Tlv Fault) → Some e.content ≡ result_ok (r >>= octets_of) → result_ok (value e) ≡ result_ok (r >>= value)
+    by_octets : (r : Result Tlv Fault) → Some e.content ≡ result_ok (r >>= content_octets_of) → result_ok (value e) ≡ result_ok (r >>= value)
     by_octets (Ok y) is = format-content format e y fits (some_is is)
       where
         some_is : {c d : List ℕ} → Some c ≡ Some d → c ≡ d
         some_is h = cc
     by_octets (Err d) is = absurd cc
 
-    by_extension : (o : Option Extension) → Some e.content ≡ option_and_then (λ x. value_of_octets known octets_of x.extnValue) o → result_ok (value e) ≡ option_and_then (λ x. value_of_octets known value x.extnValue) o
+    by_extension : (o : Option Extension)
+        → Some e.content ≡ option_and_then
+        (λ x. value_of_octets known content_octets_of x.extnValue) o
+        → result_ok (value e) ≡ option_and_then (λ x. value_of_octets known value x.extnValue) o
     by_extension None is = absurd cc
     by_extension (Some x) is =
         let s = encoded_at 0 0x04 x.extnValue in
-        by_octets (alone (tagged_as (layout_of known).tag) s) (is ∙ alone-then (layout_of known).tag octets_of s) ∙ sym (alone-then (layout_of known).tag value s)
+        by_octets (alone (tagged_as (layout_of known).tag) s) (is ∙ alone-then (layout_of known).tag content_octets_of s) ∙ sym (alone-then (layout_of known).tag value s)
 
 -- ---- what readers answer
 
 -- where no extension stands nothing is stated
-pub none-stands : (known : Known) (t : Tbs) → t.extensions ≡ None → None ≡ stated known octets_of t
-unfolding stated
+pub none-stands : (known : Known) (t : Tbs) → t.extensions ≡ None → None ≡ stated_value known content_octets_of t
+unfolding stated_value
 none-stands known t none = rw none refl
 
 -- whether an extension that stands is this one
@@ -165,25 +170,31 @@ known-unlocated : (known : Known) (t : Tbs) (xs : List Located) → t.extensions
 known-unlocated known t xs some = rw some (find-unlocated (λ x. bytes_eq x.extnID (identifier_of known)) xs)
 
 -- nor where none of those that stand is this one
-pub none-found : (known : Known) (t : Tbs) (xs : List Located) → t.extensions ≡ Some (map unlocated xs) → None ≡ find (is_known known) xs → None ≡ stated known octets_of t
-unfolding stated
+pub none-found : (known : Known) (t : Tbs) (xs : List Located) → t.extensions ≡ Some (map unlocated xs) → None ≡ find (is_known known) xs → None ≡ stated_value known content_octets_of t
+unfolding stated_value
 none-found known t xs some none = rw (known-unlocated known t xs some, sym none) refl
 
 -- else the content of the one element within its octets is
 pub one-found : (known : Known) (t : Tbs) (xs : List Located) → t.extensions ≡ Some (map unlocated xs) → (x : Lent) → Some (located_as x) ≡ find (is_known known) xs
-    → (r : Result Element Fault) → Answers now r (alone (tagged_as (layout_of known).tag) (now x.value)) → option_map (λ e. e.content.now) (result_ok r) ≡ stated known octets_of t
-unfolding stated
-one-found known t xs some x found r answers = by_answer r answers ∙ sym (alone-then (layout_of known).tag octets_of (now x.value)) ∙ octets-stated octets-format known x.value ∙ rw (known-unlocated known t xs some, sym found) refl
+    → (r : Result Element Fault) → Answers now r (alone (tagged_as (layout_of known).tag) (now x.value)) → option_map (λ e. e.content.now) (result_ok r) ≡ stated_value known content_octets_of t
+unfolding stated_value
+one-found known t xs some x found r answers = by_answer r answers
+    ∙ sym (alone-then (layout_of known).tag content_octets_of (now x.value))
+    ∙ octets-stated octets-format known x.value
+    ∙ rw (known-unlocated known t xs some, sym found) refl
   where
     by_answer : (r : Result Element Fault) → Answers now r (alone (tagged_as (layout_of known).tag) (now x.value))
-        → option_map (λ e. e.content.now) (result_ok r) ≡ result_ok (alone (tagged_as (layout_of known).tag) (now x.value) >>= octets_of)
-    by_answer (Ok e) a = ap (λ (s : Result Tlv Fault). result_ok (s >>= octets_of)) (sym a)
-    by_answer (Err f) a = ap (λ (s : Result Tlv Fault). result_ok (s >>= octets_of)) (sym a)
+        → option_map (λ e. e.content.now) (result_ok r) ≡ result_ok (alone (tagged_as (layout_of known).tag) (now x.value) >>= content_octets_of)
+    by_answer (Ok e) a = ap (λ (s : Result Tlv Fault). result_ok (s >>= content_octets_of)) (sym a)
+    by_answer (Err f) a = ap (λ (s : Result Tlv Fault). result_ok (s >>= content_octets_of)) (sym a)
 
 -- what a reader answers of an element that has the content of an extension's value is what is stated by that extension
 abbrev pub AnswersStated : {X A : Type 0} → Known → (Tlv → Result A Fault) → (X → A) → Type 0
 AnswersStated {X} known value view =
-    (t : Tbs) (e : Element) (r : Result X Fault) → Some e.content.now ≡ stated known octets_of t → Answers view r (value (now e)) → option_map view (result_ok r) ≡ stated known value t
+    (t : Tbs) (e : Element) (r : Result X Fault)
+    → Some e.content.now ≡ stated_value known content_octets_of t
+    → Answers view r (value (now e))
+    → option_map view (result_ok r) ≡ stated_value known value t
 
 pub answers-stated : {X A : Type 0} {value : Tlv → Result A Fault} {Is : List ℕ → A → Type 0} {shape : Shape} {rules : ContentRules} → Format value Is shape rules
     → (known : Known) (view : X → A) → AnswersStated known value view
@@ -196,7 +207,7 @@ answers-stated {X} {A} {value} format known view t e r some answers = by_answer 
 -- the same for a reader that answers the value itself
 abbrev pub AnswersItself : {A : Type 0} → Known → (Tlv → Result A Fault) → Type 0
 AnswersItself {A} known value =
-    (t : Tbs) (e : Element) (r : Result A Fault) → Some e.content.now ≡ stated known octets_of t → Answers (λ x. x) r (value (now e)) → result_ok r ≡ stated known value t
+    (t : Tbs) (e : Element) (r : Result A Fault) → Some e.content.now ≡ stated_value known content_octets_of t → Answers (λ x. x) r (value (now e)) → result_ok r ≡ stated_value known value t
 
 pub answers-itself : {A : Type 0} {value : Tlv → Result A Fault} {Is : List ℕ → A → Type 0} {shape : Shape} {rules : ContentRules} → Format value Is shape rules
     → (known : Known) → AnswersItself known value
@@ -221,9 +232,11 @@ find-sound holder p (y ∷ ys) x are e = by_test (p y) refl (find-sound holder p
     by_test false t more e = more e
 
 -- an extension that stands has a value, which breaks no rule
-value-stated : (known : Known) (t : Tbs) → AreValid CertificateHolder (all_extensions t) → known_at CertificateHolder (identifier_of known) ≡ Some known → (x : Extension) → known_extension known t ≡ Some x
-    → (v : ExtValue) × (stated known (content_of known) t ≡ Some v) × (broken_rule v ≡ None)
-unfolding stated ext_of
+value-stated : (known : Known) (t : Tbs) → AreValid CertificateHolder (all_extensions t)
+    → known_at CertificateHolder (identifier_of known) ≡ Some known → (x : Extension)
+    → known_extension known t ≡ Some x
+    → (v : ExtValue) × (stated_value known (content_of known) t ≡ Some v) × (broken_rule v ≡ None)
+unfolding stated_value ext_of
 value-stated known t sound here x stands =
     let f = find-sound CertificateHolder (λ y. bytes_eq y.extnID (identifier_of known)) (all_extensions t) x sound stands in
     let same : x.extnID ≡ identifier_of known = (bytes_eq-Decides x.extnID (identifier_of known)).0 f.1 in
@@ -232,12 +245,12 @@ value-stated known t sound here x stands =
     (f.0.0, rw stands (ap (λ (r : Result ExtValue Fault). result_ok r) read), f.0.2)
 
 pub has-value : (octets : List ℕ) (c : Certificate) → IsCertificate octets c → (known : Known) → known_at CertificateHolder (identifier_of known) ≡ Some known
-    → (x : Extension) → known_extension known c.tbsCertificate ≡ Some x → (v : ExtValue) × (stated known (content_of known) c.tbsCertificate ≡ Some v)
+    → (x : Extension) → known_extension known c.tbsCertificate ≡ Some x → (v : ExtValue) × (stated_value known (content_of known) c.tbsCertificate ≡ Some v)
 has-value octets c is known here x stands = let v = value-stated known c.tbsCertificate is.sound here x stands in (v.0, v.1)
 
 pub keeps-rules : (octets : List ℕ) (c : Certificate) → IsCertificate octets c → (known : Known) → known_at CertificateHolder (identifier_of known) ≡ Some known
-    → (v : ExtValue) → stated known (content_of known) c.tbsCertificate ≡ Some v → broken_rule v ≡ None
-unfolding stated
+    → (v : ExtValue) → stated_value known (content_of known) c.tbsCertificate ≡ Some v → broken_rule v ≡ None
+unfolding stated_value
 keeps-rules octets c is known here v says = by_extension (known_extension known c.tbsCertificate) refl says
   where
     some_is : {a b : ExtValue} → Some a ≡ Some b → a ≡ b
@@ -252,8 +265,8 @@ keeps-rules octets c is known here v says = by_extension (known_extension known 
 -- ---- what a certificate says in the form of one extension
 
 -- it is what the certificate says without the form
-pub stated-as : {A : Type 0} (known : Known) (value : Tlv → Result A Fault) (form : A → ExtValue) (t : Tbs) → stated known (read_as value form) t ≡ option_map form (stated known value t)
-unfolding stated
+pub stated-as : {A : Type 0} (known : Known) (value : Tlv → Result A Fault) (form : A → ExtValue) (t : Tbs) → stated_value known (read_as value form) t ≡ option_map form (stated_value known value t)
+unfolding stated_value
 stated-as {A} known value form t = by_extension (known_extension known t)
   where
     tag : ℕ
@@ -267,7 +280,9 @@ stated-as {A} known value form t = by_extension (known_extension known t)
     by_element (Ok e) = by_value (value e)
     by_element (Err d) = refl
 
-    by_extension : (o : Option Extension) → option_and_then (λ x. value_of_octets known (read_as value form) x.extnValue) o ≡ option_map form (option_and_then (λ x. value_of_octets known value x.extnValue) o)
+    by_extension : (o : Option Extension)
+        → option_and_then (λ x. value_of_octets known (read_as value form) x.extnValue) o ≡
+        option_map form (option_and_then (λ x. value_of_octets known value x.extnValue) o)
     by_extension None = refl
     by_extension (Some x) =
         let s = encoded_at 0 0x04 x.extnValue in
@@ -276,11 +291,14 @@ stated-as {A} known value form t = by_extension (known_extension known t)
 -- so of a certificate an extension that stands has a value that its own reading gives
 pub has-own-value : {A : Type 0} (octets : List ℕ) (c : Certificate) → IsCertificate octets c → (known : Known) → known_at CertificateHolder (identifier_of known) ≡ Some known
     → (value : Tlv → Result A Fault) (form : A → ExtValue) → content_of known ≡ read_as value form
-    → (x : Extension) → known_extension known c.tbsCertificate ≡ Some x → (v : A) × (stated known value c.tbsCertificate ≡ Some v)
+    → (x : Extension) → known_extension known c.tbsCertificate ≡ Some x → (v : A) × (stated_value known value c.tbsCertificate ≡ Some v)
 has-own-value {A} octets c is known here value form same x stands =
     let v = has-value octets c is known here x stands in
-    by_option (stated known value c.tbsCertificate) refl (sym (stated-as known value form c.tbsCertificate) ∙ ap (λ (r : Tlv → Result ExtValue Fault). stated known r c.tbsCertificate) (sym same) ∙ v.1)
+    by_option (stated_value known value c.tbsCertificate) refl
+    (sym (stated-as known value form c.tbsCertificate)
+    ∙ ap (λ (r : Tlv → Result ExtValue Fault). stated_value known r c.tbsCertificate) (sym same)
+    ∙ v.1)
   where
-    by_option : {w : ExtValue} (o : Option A) → stated known value c.tbsCertificate ≡ o → option_map form o ≡ Some w → (v : A) × (stated known value c.tbsCertificate ≡ Some v)
+    by_option : {w : ExtValue} (o : Option A) → stated_value known value c.tbsCertificate ≡ o → option_map form o ≡ Some w → (v : A) × (stated_value known value c.tbsCertificate ≡ Some v)
     by_option None e says = absurd cc
     by_option (Some v) e says = (v, e)

@@ -9,7 +9,7 @@ use Rattle.ts_cert.specs.declared.certificate.Cert.{Cert}
 use Rattle.ts_cert.specs.declared.parts.Parts.{Parts}
 use Rattle.ts_cert.specs.declared.version.Version.TheVariants.{V1}
 use Rattle.ts_cert.specs.Certificate.{Certificate}
-use Rattle.ts_cert.specs.Reading.{Unagreed, certificate_of}
+use Rattle.ts_cert.specs.Reading.{UncheckedCertificate, certificate_of}
 use Rattle.ts_cert.specs.View.{optional_fields_in, fields_in}
 
 -- ---- the parts, while they are read
@@ -24,7 +24,7 @@ parts_in c =
     }
 
 -- the same with places
-abbrev pub unagreed_in : Parts → Unagreed
+abbrev pub unagreed_in : Parts → UncheckedCertificate
 unagreed_in c = record {
   certificate = parts_in c;
   identifier_at = c.identifier_at;

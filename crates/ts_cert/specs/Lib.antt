@@ -1,6 +1,4 @@
 pub mod Certificate
-pub mod Period
-pub mod AllLocated
 pub mod View
 pub mod Encoding
 pub mod Rules
@@ -11,3 +9,4 @@ pub mod Reading
 pub mod Stated
 pub mod Table
 pub mod Printed
+pub mod inside

@@ -95,13 +95,13 @@ tbs_of e = do
 
 -- a certificate whose algorithm identifiers have not been compared, with the place of the outer
 -- one, and the fields that version 1 does not have where they are
-pub record Unagreed : Type 0 where
+pub record UncheckedCertificate : Type 0 where
   pub certificate : Certificate
   pub identifier_at : ℕ
   pub optional_fields : OptionalFields
 
 -- Certificate ::= SEQUENCE { tbsCertificate, signatureAlgorithm, signatureValue BIT STRING }
-unfoldable pub signed_of : Tlv → Result Unagreed CertFault
+unfoldable pub signed_of : Tlv → Result UncheckedCertificate CertFault
 signed_of e = do
   tbs ← der (element_at 0x30 (inside e))
   fields ← tbs_of tbs.0
@@ -121,8 +121,8 @@ signed_of e = do
   })
 
 -- both algorithm identifiers are one (4.1.1.2)
-unfoldable pub agreed : Unagreed → Result Certificate CertFault
-agreed s = if bytes_eq s.certificate.tbsCertificate.signature.whole
+unfoldable pub with_one_algorithm : UncheckedCertificate → Result Certificate CertFault
+with_one_algorithm s = if bytes_eq s.certificate.tbsCertificate.signature.whole
     s.certificate.signatureAlgorithm.whole then Ok s.certificate
     else Err (breaks s.identifier_at AlgorithmMismatch)
 
@@ -137,7 +137,7 @@ whole_of octets = do
   e ← der (element_at 0x30 (record { rest = octets; at = 0 }))
   signed ← signed_of e.0
   done ← der (end_at e.1)
-  certificate ← agreed signed
+  certificate ← with_one_algorithm signed
   unless_broken (extensions_fault signed.certificate.tbsCertificate.version signed.optional_fields)
       certificate
 

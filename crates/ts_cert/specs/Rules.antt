@@ -7,7 +7,7 @@ use Rattle.ts_shape.specs.Fault.{breaks}
 use Rattle.ts_shape.specs.Shape.{◌or_else◌}
 use Rattle.ts_ext.specs.declared.known.Holder.TheVariants.{Certificate as CertificateHolder}
 use Rattle.ts_ext.specs.Extension.{Located}
-use Rattle.ts_ext.specs.ValueRules.{list_fault}
+use Rattle.ts_ext.specs.ValueRules.{extension_list_fault}
 use Rattle.ts_cert.specs.declared.version.Version.{Version}
 use Rattle.ts_cert.specs.declared.version.Version.TheVariants.{V1, V2, V3}
 use Rattle.ts_cert.specs.Certificate.{Tbs}
@@ -46,4 +46,5 @@ version_fault V3 l = None
 -- the first rule that is broken: of versions, that no extension occurs twice (4.2), of the values
 -- of extensions
 abbrev pub extensions_fault : Version → OptionalFields → Option CertFault
-extensions_fault v l = version_fault v l or_else list_fault CertificateHolder (all_located l)
+extensions_fault v l = version_fault v l or_else extension_list_fault CertificateHolder
+    (all_located l)

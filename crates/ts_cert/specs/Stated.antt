@@ -30,8 +30,8 @@ value_of_octets known reading octets =
 
 -- what this extension says, read so: nothing where it does not stand, else the value that its
 -- octets are, if they are one
-unfoldable pub stated : {A : Type 0} → Known → (Tlv → Result A Fault) → Tbs → Option A
-stated known reading t = option_and_then (λ x. value_of_octets known reading x.extnValue)
+unfoldable pub stated_value : {A : Type 0} → Known → (Tlv → Result A Fault) → Tbs → Option A
+stated_value known reading t = option_and_then (λ x. value_of_octets known reading x.extnValue)
     (known_extension known t)
 
 -- what this extension says, read so, is what its octets encode: nothing where it does not stand,
@@ -39,4 +39,4 @@ stated known reading t = option_and_then (λ x. value_of_octets known reading x.
 abbrev pub IsEncoded : {A : Type 0} → Known → (Tlv → Result A Fault) → (List ℕ → A → Type 0) → Tbs
     → Type 0
 IsEncoded known reading Encodes t = IsStated (Within (layout_of known).tag Encodes)
-    (known_extension known t) (stated known reading t)
+    (known_extension known t) (stated_value known reading t)

@@ -19,7 +19,7 @@ use Rattle.ts_name.specs.NameRows.{name}
 use Rattle.ts_ext.specs.Extension.{explicit_extensions}
 use Rattle.ts_field.specs.Table.{time, algorithm_identifier, from_front}
 use Rattle.ts_cert.specs.Rules.{extensions_fault}
-use Rattle.ts_cert.specs.Reading.{Unagreed, signed_of}
+use Rattle.ts_cert.specs.Reading.{UncheckedCertificate, signed_of}
 
 -- ---- certificates
 
@@ -117,7 +117,7 @@ algorithms_fault octets =
     else Some (breaks (signature_algorithm_element octets).at AlgorithmMismatch)
 
 -- the first rule that the fields break, where they were read
-abbrev pub fields_fault : Result Unagreed CertFault → Option CertFault
+abbrev pub fields_fault : Result UncheckedCertificate CertFault → Option CertFault
 fields_fault (Ok s) = extensions_fault s.certificate.tbsCertificate.version s.optional_fields
 fields_fault (Err f) = None
 

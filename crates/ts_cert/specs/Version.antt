@@ -20,8 +20,8 @@ version_named at (octet ∷ []) =
 version_named at content = Err (breaks at VersionRule)
 
 -- an INTEGER that is a version
-unfoldable pub number_of : Tlv → Result Version CertFault
-number_of e = do
+unfoldable pub version_integer : Tlv → Result Version CertFault
+version_integer e = do
   content ← der (value_at integer_rules (λ c. c) e)
   version_named e.at content
 
@@ -34,7 +34,7 @@ not_default e v = Ok v
 unfoldable pub version_of : Tlv → Result Version CertFault
 version_of e = do
   number ← der (element_at 0x02 (inside e))
-  version ← number_of number.0
+  version ← version_integer number.0
   done ← der (end_at number.1)
   not_default e version
 

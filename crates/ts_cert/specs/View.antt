@@ -8,8 +8,8 @@ use Rattle.ts_field.specs.View.{algorithm_in}
 use Rattle.ts_cert.specs.declared.key.SubjectPublicKeyInfo.{SubjectPublicKeyInfo}
 use Rattle.ts_cert.specs.declared.optional_fields.OptionalFields.{OptionalFields as Late}
 use Rattle.ts_cert.specs.declared.tbs.TbsCertificate.{TbsCertificate}
-use Rattle.ts_cert.specs.Period.{validity_in}
-use Rattle.ts_cert.specs.AllLocated.{all_located_within}
+use Rattle.ts_cert.specs.inside.Period.{validity_in}
+use Rattle.ts_cert.specs.inside.AllLocated.{all_located_within}
 use Rattle.ts_cert.specs.Certificate.{KeyInfo, Tbs}
 use Rattle.ts_cert.specs.Rules.{OptionalFields, LocatedTbs}
 

@@ -12,14 +12,15 @@ ghost use Rattle.ts_shape.specs.Fields.{Within, IsOid, IsInteger, IsBits};
 ghost use Rattle.ts_name.specs.NameEncoding.{IsName};
 ghost use Rattle.ts_field.specs.Algorithm.{AreParameters, IsAlgorithm};
 ghost use Rattle.ts_field.specs.Time.{IsTime};
-ghost use Rattle.ts_cert.specs.Layout.{Spans, AreLaidOut, AreValidExplicit, IsRepeated, IsVersion3};
+ghost use Rattle.ts_cert.specs.Layout.{AreLaidOut};
+ghost use Rattle.ts_cert.specs.inside.Layout.{Spans, AreValidExplicit, IsRepeated, IsVersion3};
 ghost use Rattle.ts_cert.specs.Encoding.{IsValidity, IsKeyInfo};
 
 use crate::layout::Layout;
 use crate::optional_reading::EXTENSIONS;
 use crate::version::{VERSION, Version};
 use ts_der::tag::{BIT_STRING, INTEGER, OBJECT_IDENTIFIER, SEQUENCE, UTC_TIME};
-use ts_der::{Bounds, OidRef, are_equal, bounds_at, lie_between};
+use ts_der::{ContentBounds, OidRef, are_equal, bounds_at, lie_between};
 use ts_ext::are_sound_extensions;
 use ts_name::is_name;
 use ts_time::begins_with_utc;
@@ -46,7 +47,7 @@ fn integer_end(octets: &[u8], at: usize) -> Option<usize>
     requires { at ≤ length octets.now }
     ensures { IfSome result (Spans (Within 0x02 IsInteger) octets.now at) }
 {
-    let Bounds { start, end } = bounds_at(octets, at, INTEGER)?;
+    let ContentBounds { start, end } = bounds_at(octets, at, INTEGER)?;
     if !is_shortest(&octets[start..end]) {
         return None;
     }
@@ -59,7 +60,7 @@ fn oid_end(octets: &[u8], at: usize) -> Option<usize>
     requires { at ≤ length octets.now }
     ensures { IfSome result (Spans (Within 0x06 IsOid) octets.now at) }
 {
-    let Bounds { start, end } = bounds_at(octets, at, OBJECT_IDENTIFIER)?;
+    let ContentBounds { start, end } = bounds_at(octets, at, OBJECT_IDENTIFIER)?;
     let _oid = OidRef::from_content(&octets[start..end])?;
     Some(end)
 }
@@ -168,7 +169,7 @@ fn full_algorithm_end(octets: &[u8], at: usize) -> Option<usize>
     requires { at ≤ length octets.now }
     ensures { IfSome result (Spans (Within 0x30 IsAlgorithm) octets.now at) }
 {
-    let Bounds { start, end } = bounds_at(octets, at, SEQUENCE)?;
+    let ContentBounds { start, end } = bounds_at(octets, at, SEQUENCE)?;
     let parameters = oid_end(octets, start)?;
     if !are_parameters(octets, parameters, end) {
         return None;
@@ -212,7 +213,7 @@ fn name_end(octets: &[u8], at: usize) -> Option<usize>
     requires { at ≤ length octets.now }
     ensures { IfSome result (Spans (Within 0x30 IsName) octets.now at) }
 {
-    let Bounds { start, end } = bounds_at(octets, at, SEQUENCE)?;
+    let ContentBounds { start, end } = bounds_at(octets, at, SEQUENCE)?;
     if !is_name(&octets[start..end]) {
         return None;
     }
@@ -240,7 +241,7 @@ fn validity_end(octets: &[u8], at: usize) -> Option<usize>
     requires { at ≤ length octets.now }
     ensures { IfSome result (Spans (Within 0x30 IsValidity) octets.now at) }
 {
-    let Bounds { start, end } = bounds_at(octets, at, SEQUENCE)?;
+    let ContentBounds { start, end } = bounds_at(octets, at, SEQUENCE)?;
     let not_after = utc_end(octets, start)?;
     if utc_end(octets, not_after)? != end {
         return None;
@@ -254,7 +255,7 @@ fn bits_end(octets: &[u8], at: usize) -> Option<usize>
     requires { at ≤ length octets.now }
     ensures { IfSome result (Spans (Within 0x03 IsBits) octets.now at) }
 {
-    let Bounds { start, end } = bounds_at(octets, at, BIT_STRING)?;
+    let ContentBounds { start, end } = bounds_at(octets, at, BIT_STRING)?;
     let [unused, ..] = &octets[start..end] else {
         return None;
     };
@@ -270,7 +271,7 @@ fn key_end(octets: &[u8], at: usize) -> Option<usize>
     requires { at ≤ length octets.now }
     ensures { IfSome result (Spans (Within 0x30 IsKeyInfo) octets.now at) }
 {
-    let Bounds { start, end } = bounds_at(octets, at, SEQUENCE)?;
+    let ContentBounds { start, end } = bounds_at(octets, at, SEQUENCE)?;
     let key = key_algorithm_end(octets, start)?;
     if bits_end(octets, key)? != end {
         return None;

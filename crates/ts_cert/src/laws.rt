@@ -12,7 +12,7 @@ ghost use Rattle.ts_cert.specs.Certificate.{Tbs, Certificate};
 ghost use Rattle.ts_cert.specs.Encoding.{IsTbs, IsCertificate};
 ghost use Rattle.ts_ext.specs.declared.known.Known.TheVariants as extension;
 ghost use Rattle.ts_ext.specs.AuthorityKey.{AreOctetsOf, IsAuthorityKey, authority_key_of};
-ghost use Rattle.ts_ext.specs.AuthorityKey.{octets_of};
+ghost use Rattle.ts_ext.specs.AuthorityKey.{content_octets_of};
 ghost use Rattle.ts_ext.specs.Encoding.{AreCertificatePolicies, AreKeyPurposes, ArePolicyMappings};
 ghost use Rattle.ts_ext.specs.Encoding.{IsBasicConstraints, IsKeyUsage, IsPolicyConstraints};
 ghost use Rattle.ts_ext.specs.Encoding.{IsSkipCerts};
@@ -22,7 +22,7 @@ ghost use Rattle.ts_ext.specs.Points.{ArePoints, points_of};
 ghost use Rattle.ts_ext.specs.Reading.{basic_constraints_of, certificate_policies_of};
 ghost use Rattle.ts_ext.specs.Reading.{ext_key_usage_of, key_usage_of, policy_constraints_of};
 ghost use Rattle.ts_ext.specs.Reading.{policy_mappings_of, skip_certs_of};
-ghost use Rattle.ts_cert.specs.Stated.{IsEncoded, known_extension, stated};
+ghost use Rattle.ts_cert.specs.Stated.{IsEncoded, known_extension, stated_value};
 
 /// No two lists of octets are one certificate, and none is two.
 pub fn one_certificate()
@@ -45,10 +45,10 @@ pub fn no_missing_value()
     ensures has_value { (octets : List ℕ) (c : Certificate) → IsCertificate octets c
         → (known : Known) → known_at CertificateHolder (identifier_of known) ≡ Some known
         → (x : Extension) → known_extension known c.tbsCertificate ≡ Some x
-        → (v : ExtValue) × (stated known (content_of known) c.tbsCertificate ≡ Some v) }
+        → (v : ExtValue) × (stated_value known (content_of known) c.tbsCertificate ≡ Some v) }
     ensures keeps_rules { (octets : List ℕ) (c : Certificate) → IsCertificate octets c
         → (known : Known) → known_at CertificateHolder (identifier_of known) ≡ Some known
-        → (v : ExtValue) → stated known (content_of known) c.tbsCertificate ≡ Some v
+        → (v : ExtValue) → stated_value known (content_of known) c.tbsCertificate ≡ Some v
         → broken_rule v ≡ None }
 {}
 
@@ -59,7 +59,7 @@ pub fn each_value_is_encoded()
     ensures authority_key_identifier { (octets : List ℕ) (c : Certificate) → IsCertificate octets c
         → IsEncoded extension.AuthorityKeyIdentifier authority_key_of IsAuthorityKey c.tbsCertificate }
     ensures subject_key_identifier { (octets : List ℕ) (c : Certificate) → IsCertificate octets c
-        → IsEncoded extension.SubjectKeyIdentifier octets_of AreOctetsOf c.tbsCertificate }
+        → IsEncoded extension.SubjectKeyIdentifier content_octets_of AreOctetsOf c.tbsCertificate }
     ensures key_usage { (octets : List ℕ) (c : Certificate) → IsCertificate octets c
         → IsEncoded extension.KeyUsage key_usage_of IsKeyUsage c.tbsCertificate }
     ensures certificate_policies { (octets : List ℕ) (c : Certificate) → IsCertificate octets c

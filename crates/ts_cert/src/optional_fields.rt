@@ -1,7 +1,7 @@
 //! The fields that version 1 of a certificate does not have.
 
 ghost use Rattle.std.specs.Prelude.{◌≡◌};
-ghost use Rattle.ts_cert.specs.AllLocated.{fault_within};
+ghost use Rattle.ts_cert.specs.inside.AllLocated.{fault_within};
 
 use ts_der::{Bits, Element};
 use ts_shape::CertFault;

@@ -7,7 +7,7 @@ ghost use Rattle.ts_shape.specs.Fields.{optional_of};
 ghost use Rattle.ts_shape.specs.Steps.{Takes};
 ghost use Rattle.ts_ext.specs.Extension.{explicit_all_located_of};
 ghost use Rattle.ts_cert.specs.Reading.{unique_identifier_of, optional_fields_at};
-ghost use Rattle.ts_cert.specs.AllLocated.{all_located_within, fault_within};
+ghost use Rattle.ts_cert.specs.inside.AllLocated.{all_located_within, fault_within};
 ghost use Rattle.ts_cert.specs.View.{optional_fields_in};
 
 use crate::optional_fields::{OptionalFields, Places};

@@ -11,9 +11,9 @@ ghost use Rattle.ts_field.specs.Algorithm.{Algorithm, IsAlgorithm};
 ghost use Rattle.ts_field.specs.View.{algorithm_in};
 ghost use Rattle.ts_cert.specs.declared.validity.Validity.{Validity as Period};
 ghost use Rattle.ts_cert.specs.Certificate.{KeyInfo};
-ghost use Rattle.ts_cert.specs.Layout.{Holds, HoldsIfAny};
+ghost use Rattle.ts_cert.specs.inside.Layout.{HoldsEncoding, HoldsEncodingIfAny};
 ghost use Rattle.ts_cert.specs.Encoding.{IsValidity, IsKeyInfo, IsUniqueIdentifier};
-ghost use Rattle.ts_cert.specs.AllLocated.{all_located_within};
+ghost use Rattle.ts_cert.specs.inside.AllLocated.{all_located_within};
 ghost use Rattle.ts_cert.specs.View.{key_in};
 
 use crate::key::{SubjectPublicKeyInfo, next_key};
@@ -26,8 +26,9 @@ use ts_name::Name;
 
 /// The INTEGER that begins at an offset.
 pub(crate) fn integer_from(octets: &[u8], at: usize) -> Integer<'_>
-    requires { ∥ ((x : List ℕ) × Holds (Within 0x02 IsInteger) octets.now at x) ∥₁ }
-    ensures { (x : List ℕ) → Holds (Within 0x02 IsInteger) octets.now at x → result.octets.now ≡ x }
+    requires { ∥ ((x : List ℕ) × HoldsEncoding (Within 0x02 IsInteger) octets.now at x) ∥₁ }
+    ensures { (x : List ℕ) → HoldsEncoding (Within 0x02 IsInteger) octets.now at x
+        → result.octets.now ≡ x }
 {
     match next_integer(&mut Reader::at(octets, at)) {
         Ok(integer) => integer,
@@ -37,8 +38,8 @@ pub(crate) fn integer_from(octets: &[u8], at: usize) -> Integer<'_>
 
 /// The octets of the BIT STRING that begins at an offset.
 pub(crate) fn bits_from(octets: &[u8], at: usize) -> &[u8]
-    requires { ∥ ((x : List ℕ) × Holds (Within 0x03 IsBits) octets.now at x) ∥₁ }
-    ensures { (x : List ℕ) → Holds (Within 0x03 IsBits) octets.now at x → result.now ≡ x }
+    requires { ∥ ((x : List ℕ) × HoldsEncoding (Within 0x03 IsBits) octets.now at x) ∥₁ }
+    ensures { (x : List ℕ) → HoldsEncoding (Within 0x03 IsBits) octets.now at x → result.now ≡ x }
 {
     match next_bits(&mut Reader::at(octets, at)) {
         Ok(bits) => bits,
@@ -48,8 +49,8 @@ pub(crate) fn bits_from(octets: &[u8], at: usize) -> &[u8]
 
 /// The algorithm identifier that begins at an offset.
 pub(crate) fn algorithm_from(octets: &[u8], at: usize) -> AlgorithmIdentifier<'_>
-    requires { ∥ ((x : Algorithm) × Holds (Within 0x30 IsAlgorithm) octets.now at x) ∥₁ }
-    ensures { (x : Algorithm) → Holds (Within 0x30 IsAlgorithm) octets.now at x
+    requires { ∥ ((x : Algorithm) × HoldsEncoding (Within 0x30 IsAlgorithm) octets.now at x) ∥₁ }
+    ensures { (x : Algorithm) → HoldsEncoding (Within 0x30 IsAlgorithm) octets.now at x
         → algorithm_in result ≡ x }
 {
     match next_algorithm(&mut Reader::at(octets, at)) {
@@ -60,8 +61,8 @@ pub(crate) fn algorithm_from(octets: &[u8], at: usize) -> AlgorithmIdentifier<'_
 
 /// The validity that begins at an offset.
 pub(crate) fn validity_from(octets: &[u8], at: usize) -> Validity
-    requires { ∥ ((x : Period) × Holds (Within 0x30 IsValidity) octets.now at x) ∥₁ }
-    ensures { (x : Period) → Holds (Within 0x30 IsValidity) octets.now at x → result ≡ x }
+    requires { ∥ ((x : Period) × HoldsEncoding (Within 0x30 IsValidity) octets.now at x) ∥₁ }
+    ensures { (x : Period) → HoldsEncoding (Within 0x30 IsValidity) octets.now at x → result ≡ x }
 {
     match next_validity(&mut Reader::at(octets, at)) {
         Ok(validity) => validity,
@@ -71,8 +72,9 @@ pub(crate) fn validity_from(octets: &[u8], at: usize) -> Validity
 
 /// The key that begins at an offset.
 pub(crate) fn key_from(octets: &[u8], at: usize) -> SubjectPublicKeyInfo<'_>
-    requires { ∥ ((x : KeyInfo) × Holds (Within 0x30 IsKeyInfo) octets.now at x) ∥₁ }
-    ensures { (x : KeyInfo) → Holds (Within 0x30 IsKeyInfo) octets.now at x → key_in result ≡ x }
+    requires { ∥ ((x : KeyInfo) × HoldsEncoding (Within 0x30 IsKeyInfo) octets.now at x) ∥₁ }
+    ensures { (x : KeyInfo) → HoldsEncoding (Within 0x30 IsKeyInfo) octets.now at x → key_in result
+        ≡ x }
 {
     match next_key(&mut Reader::at(octets, at)) {
         Ok(key) => key,
@@ -82,8 +84,8 @@ pub(crate) fn key_from(octets: &[u8], at: usize) -> SubjectPublicKeyInfo<'_>
 
 /// The name that begins at an offset. It is not read again.
 pub(crate) fn name_from(octets: &[u8], at: usize) -> Name<'_>
-    requires { ∥ ((x : List (List Attr)) × Holds (Within 0x30 IsName) octets.now at x) ∥₁ }
-    ensures { (x : List (List Attr)) → Holds (Within 0x30 IsName) octets.now at x
+    requires { ∥ ((x : List (List Attr)) × HoldsEncoding (Within 0x30 IsName) octets.now at x) ∥₁ }
+    ensures { (x : List (List Attr)) → HoldsEncoding (Within 0x30 IsName) octets.now at x
         → rdns_in result ≡ x }
 {
     match Reader::at(octets, at).element(SEQUENCE) {
@@ -95,8 +97,8 @@ pub(crate) fn name_from(octets: &[u8], at: usize) -> Name<'_>
 /// The unique identifier of this tag that begins at an offset, if one does.
 pub(crate) fn unique_id_from(octets: &[u8], at: usize, tag: u8) -> Option<Bits<'_>>
     requires { ∥ ((x : Option (ℕ × List ℕ))
-        × HoldsIfAny tag IsUniqueIdentifier octets.now at x) ∥₁ }
-    ensures { (x : Option (ℕ × List ℕ)) → HoldsIfAny tag IsUniqueIdentifier octets.now at x
+        × HoldsEncodingIfAny tag IsUniqueIdentifier octets.now at x) ∥₁ }
+    ensures { (x : Option (ℕ × List ℕ)) → HoldsEncodingIfAny tag IsUniqueIdentifier octets.now at x
         → option_map parts_of result ≡ x }
 {
     match next_unique_id(&mut Reader::at(octets, at), tag) {
@@ -107,8 +109,9 @@ pub(crate) fn unique_id_from(octets: &[u8], at: usize, tag: u8) -> Option<Bits<'
 
 /// The SEQUENCE of the extensions that begin at an offset, if any do.
 pub(crate) fn extensions_from(octets: &[u8], at: usize) -> Option<Element<'_>>
-    requires { ∥ ((x : Option (List Extension)) × HoldsIfAny 0xA3 AreExplicit octets.now at x) ∥₁ }
-    ensures { (x : Option (List Extension)) → HoldsIfAny 0xA3 AreExplicit octets.now at x
+    requires { ∥ ((x : Option (List Extension)) × HoldsEncodingIfAny 0xA3 AreExplicit octets.now at
+        x) ∥₁ }
+    ensures { (x : Option (List Extension)) → HoldsEncodingIfAny 0xA3 AreExplicit octets.now at x
         → option_map (map unlocated) (option_map all_located_within result) ≡ x }
 {
     match Reader::at(octets, at).optional(EXTENSIONS) {

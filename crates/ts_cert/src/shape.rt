@@ -3,7 +3,7 @@
 ghost use Rattle.std.specs.Prelude.{◌≡◌};
 ghost use Rattle.ts_der.specs.Answer.{Answers, refusal};
 ghost use Rattle.ts_der.specs.View.{now};
-ghost use Rattle.ts_cert.specs.Reading.{signed_of, agreed, whole_of, certificate_of};
+ghost use Rattle.ts_cert.specs.Reading.{signed_of, with_one_algorithm, whole_of, certificate_of};
 ghost use Rattle.ts_cert.specs.CertView.{unagreed_in, parts_in};
 
 use crate::algorithm::read_algorithm_beside;
@@ -38,9 +38,9 @@ fn read_signed<'a>(element: Element<'a>) -> Result<Parts<'a>, CertFault>
 }
 
 /// Nothing, where a certificate's two algorithm identifiers are one (RFC 5280 4.1.1.2).
-#[tactic(auto, unfolding(crate::specs::Reading::agreed))]
+#[tactic(auto, unfolding(crate::specs::Reading::with_one_algorithm))]
 fn agrees(parts: &Parts<'_>) -> Result<(), CertFault>
-    ensures { refusal result ≡ refusal (agreed (unagreed_in parts.now)) }
+    ensures { refusal result ≡ refusal (with_one_algorithm (unagreed_in parts.now)) }
 {
     if parts.fields.signature.whole != parts.signature_algorithm.whole {
         return Err(CertFault {
@@ -52,7 +52,7 @@ fn agrees(parts: &Parts<'_>) -> Result<(), CertFault>
 }
 
 /// The parts of the certificate that octets are, with nothing after it.
-#[tactic(auto, unfolding(crate::specs::Reading::whole_of, crate::specs::Reading::agreed))]
+#[tactic(auto, unfolding(crate::specs::Reading::whole_of, crate::specs::Reading::with_one_algorithm))]
 fn read_whole(octets: &[u8]) -> Result<Parts<'_>, CertFault>
     ensures { Answers parts_in result (whole_of octets.now) }
 {

@@ -8,7 +8,7 @@ ghost use Rattle.ts_der.specs.BitsView.{parts_of, bits_in};
 ghost use Rattle.ts_der.specs.View.{now};
 ghost use Rattle.ts_shape.specs.Items.{alone, tagged_as as tagged_as_of};
 ghost use Rattle.ts_ext.specs.declared.known.Known.TheVariants as extension;
-ghost use Rattle.ts_ext.specs.AuthorityKey.{octets_of, authority_key_of};
+ghost use Rattle.ts_ext.specs.AuthorityKey.{content_octets_of, authority_key_of};
 ghost use Rattle.ts_ext.specs.Extension.{unlocated};
 ghost use Rattle.ts_ext.specs.ExtensionView.{extensions_in};
 ghost use Rattle.ts_ext.specs.GeneralNames.{general_names_of};
@@ -21,8 +21,8 @@ ghost use Rattle.ts_ext.specs.Reading.{policy_mappings_of, policy_constraints_of
 ghost use Rattle.ts_ext.specs.Reading.{skip_certs_of};
 ghost use Rattle.ts_ext.specs.View.{policies_in, mappings_in, purposes_in};
 ghost use Rattle.ts_cert.specs.CertView.{cert_in};
-ghost use Rattle.ts_cert.specs.AllLocated.{all_located_within};
-ghost use Rattle.ts_cert.specs.Stated.{stated};
+ghost use Rattle.ts_cert.specs.inside.AllLocated.{all_located_within};
+ghost use Rattle.ts_cert.specs.Stated.{stated_value};
 
 use crate::certificate::Cert;
 use crate::optional_reading::{ISSUER_UNIQUE_ID, SUBJECT_UNIQUE_ID};
@@ -79,7 +79,7 @@ impl<'a> Cert<'a> {
     #[tactic(auto, using(crate::proofs::StatedValues::stated_none, crate::proofs::StatedReaders::authority_key_identifier))]
     pub fn authority_key_identifier(self) -> Option<AuthorityKeyIdentifier<'a>>
         ensures { option_map authority_key_in result
-            ≡ stated extension.AuthorityKeyIdentifier authority_key_of
+            ≡ stated_value extension.AuthorityKeyIdentifier authority_key_of
             (cert_in self.entry).tbsCertificate }
     {
         AuthorityKeyIdentifier::read(self.content(Known::AuthorityKeyIdentifier)?).ok()
@@ -88,7 +88,8 @@ impl<'a> Cert<'a> {
     /// What tells the key of the subject from others (RFC 5280 4.2.1.2).
     pub fn subject_key_identifier(self) -> Option<&'a [u8]>
         ensures { option_map (λ k. k.now) result
-            ≡ stated extension.SubjectKeyIdentifier octets_of (cert_in self.entry).tbsCertificate }
+            ≡ stated_value extension.SubjectKeyIdentifier content_octets_of
+            (cert_in self.entry).tbsCertificate }
     {
         Some(self.content(Known::SubjectKeyIdentifier)?.content)
     }
@@ -97,7 +98,7 @@ impl<'a> Cert<'a> {
     #[tactic(auto, using(crate::proofs::StatedValues::stated_none, crate::proofs::StatedReaders::key_usage))]
     pub fn key_usage(self) -> Option<KeyUsage<'a>>
         ensures { option_map (λ u. bits_in u.bits) result
-            ≡ stated extension.KeyUsage key_usage_of (cert_in self.entry).tbsCertificate }
+            ≡ stated_value extension.KeyUsage key_usage_of (cert_in self.entry).tbsCertificate }
     {
         KeyUsage::read(self.content(Known::KeyUsage)?).ok()
     }
@@ -106,7 +107,7 @@ impl<'a> Cert<'a> {
     #[tactic(auto, using(crate::proofs::StatedValues::stated_none, crate::proofs::StatedReaders::certificate_policies))]
     pub fn certificate_policies(self) -> Option<CertificatePolicies<'a>>
         ensures { option_map policies_in result
-            ≡ stated extension.CertificatePolicies certificate_policies_of
+            ≡ stated_value extension.CertificatePolicies certificate_policies_of
             (cert_in self.entry).tbsCertificate }
     {
         CertificatePolicies::read(self.content(Known::CertificatePolicies)?).ok()
@@ -116,7 +117,7 @@ impl<'a> Cert<'a> {
     #[tactic(auto, using(crate::proofs::StatedValues::stated_none, crate::proofs::StatedReaders::policy_mappings))]
     pub fn policy_mappings(self) -> Option<PolicyMappings<'a>>
         ensures { option_map mappings_in result
-            ≡ stated extension.PolicyMappings policy_mappings_of
+            ≡ stated_value extension.PolicyMappings policy_mappings_of
             (cert_in self.entry).tbsCertificate }
     {
         PolicyMappings::read(self.content(Known::PolicyMappings)?).ok()
@@ -126,7 +127,8 @@ impl<'a> Cert<'a> {
     #[tactic(auto, using(crate::proofs::StatedValues::stated_none, crate::proofs::StatedReaders::subject_alt_name))]
     pub fn subject_alt_name(self) -> Option<AlternativeNames<'a>>
         ensures { option_map alternatives_in result
-            ≡ stated extension.SubjectAltName general_names_of (cert_in self.entry).tbsCertificate }
+            ≡ stated_value extension.SubjectAltName general_names_of
+            (cert_in self.entry).tbsCertificate }
     {
         AlternativeNames::read(self.content(Known::SubjectAltName)?).ok()
     }
@@ -135,7 +137,8 @@ impl<'a> Cert<'a> {
     #[tactic(auto, using(crate::proofs::StatedValues::stated_none, crate::proofs::StatedReaders::issuer_alt_name))]
     pub fn issuer_alt_name(self) -> Option<AlternativeNames<'a>>
         ensures { option_map alternatives_in result
-            ≡ stated extension.IssuerAltName general_names_of (cert_in self.entry).tbsCertificate }
+            ≡ stated_value extension.IssuerAltName general_names_of
+            (cert_in self.entry).tbsCertificate }
     {
         AlternativeNames::read(self.content(Known::IssuerAltName)?).ok()
     }
@@ -144,7 +147,7 @@ impl<'a> Cert<'a> {
     /// 4.2.1.9).
     #[tactic(auto, using(crate::proofs::StatedValues::stated_none, crate::proofs::StatedReaders::basic_constraints))]
     pub fn basic_constraints(self) -> Option<BasicConstraints>
-        ensures { result ≡ stated extension.BasicConstraints basic_constraints_of
+        ensures { result ≡ stated_value extension.BasicConstraints basic_constraints_of
             (cert_in self.entry).tbsCertificate }
     {
         BasicConstraints::read(self.content(Known::BasicConstraints)?).ok()
@@ -154,7 +157,7 @@ impl<'a> Cert<'a> {
     #[tactic(auto, using(crate::proofs::StatedValues::stated_none, crate::proofs::StatedReaders::name_constraints))]
     pub fn name_constraints(self) -> Option<NameConstraints<'a>>
         ensures { option_map name_constraints_in result
-            ≡ stated extension.NameConstraints name_constraints_of
+            ≡ stated_value extension.NameConstraints name_constraints_of
             (cert_in self.entry).tbsCertificate }
     {
         NameConstraints::read(self.content(Known::NameConstraints)?).ok()
@@ -164,7 +167,7 @@ impl<'a> Cert<'a> {
     /// mapped (RFC 5280 4.2.1.11).
     #[tactic(auto, using(crate::proofs::StatedValues::stated_none, crate::proofs::StatedReaders::policy_constraints))]
     pub fn policy_constraints(self) -> Option<PolicyConstraints>
-        ensures { result ≡ stated extension.PolicyConstraints policy_constraints_of
+        ensures { result ≡ stated_value extension.PolicyConstraints policy_constraints_of
             (cert_in self.entry).tbsCertificate }
     {
         PolicyConstraints::read(self.content(Known::PolicyConstraints)?).ok()
@@ -174,7 +177,7 @@ impl<'a> Cert<'a> {
     #[tactic(auto, using(crate::proofs::StatedValues::stated_none, crate::proofs::StatedReaders::extended_key_usage))]
     pub fn extended_key_usage(self) -> Option<ExtendedKeyUsage<'a>>
         ensures { option_map purposes_in result
-            ≡ stated extension.ExtendedKeyUsage ext_key_usage_of
+            ≡ stated_value extension.ExtendedKeyUsage ext_key_usage_of
             (cert_in self.entry).tbsCertificate }
     {
         ExtendedKeyUsage::read(self.content(Known::ExtendedKeyUsage)?).ok()
@@ -184,7 +187,8 @@ impl<'a> Cert<'a> {
     #[tactic(auto, using(crate::proofs::StatedValues::stated_none, crate::proofs::StatedReaders::crl_distribution_points))]
     pub fn crl_distribution_points(self) -> Option<DistributionPoints<'a>>
         ensures { option_map points_in result
-            ≡ stated extension.CrlDistributionPoints points_of (cert_in self.entry).tbsCertificate }
+            ≡ stated_value extension.CrlDistributionPoints points_of
+            (cert_in self.entry).tbsCertificate }
     {
         DistributionPoints::read(self.content(Known::CrlDistributionPoints)?).ok()
     }
@@ -194,7 +198,8 @@ impl<'a> Cert<'a> {
     #[tactic(auto, using(crate::proofs::StatedValues::stated_none, crate::proofs::StatedReaders::inhibit_any_policy))]
     pub fn inhibit_any_policy(self) -> Option<SkipCerts>
         ensures { option_map (λ n. n.0) result
-            ≡ stated extension.InhibitAnyPolicy skip_certs_of (cert_in self.entry).tbsCertificate }
+            ≡ stated_value extension.InhibitAnyPolicy skip_certs_of
+            (cert_in self.entry).tbsCertificate }
     {
         SkipCerts::read(self.content(Known::InhibitAnyPolicy)?).ok()
     }
@@ -203,7 +208,7 @@ impl<'a> Cert<'a> {
     #[tactic(auto, using(crate::proofs::StatedValues::stated_none, crate::proofs::StatedReaders::freshest_crl))]
     pub fn freshest_crl(self) -> Option<DistributionPoints<'a>>
         ensures { option_map points_in result
-            ≡ stated extension.FreshestCrl points_of (cert_in self.entry).tbsCertificate }
+            ≡ stated_value extension.FreshestCrl points_of (cert_in self.entry).tbsCertificate }
     {
         DistributionPoints::read(self.content(Known::FreshestCrl)?).ok()
     }
@@ -220,7 +225,7 @@ impl<'a> Cert<'a> {
     /// element of its tag.
     fn content(self, known: Known) -> Option<Element<'a>>
         ensures { option_map (λ e. e.content.now) result
-            ≡ stated known octets_of (cert_in self.entry).tbsCertificate }
+            ≡ stated_value known content_octets_of (cert_in self.entry).tbsCertificate }
     {
         let list = self.extension_list()?;
         let extension = Extensions::within(list).find(known)?;

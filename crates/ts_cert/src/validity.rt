@@ -25,7 +25,7 @@ pub(crate) struct Period {
 
 impl Period {
     ghost use Rattle.std.specs.Prelude.{◌≡◌};
-    ghost use Rattle.ts_cert.specs.Period.{validity_in};
+    ghost use Rattle.ts_cert.specs.inside.Period.{validity_in};
 
     /// The period that keeps a validity.
     pub(crate) fn of(validity: Validity) -> Period

@@ -3,7 +3,7 @@
 ghost use Rattle.std.specs.Prelude.{◌≡◌};
 ghost use Rattle.ts_der.specs.Answer.{Answers};
 ghost use Rattle.ts_der.specs.View.{now};
-ghost use Rattle.ts_cert.specs.Version.{number_of, version_of, version_at};
+ghost use Rattle.ts_cert.specs.Version.{version_integer, version_of, version_at};
 ghost use Rattle.ts_shape.specs.Steps.{TakesIn};
 
 use ts_der::tag::INTEGER;
@@ -25,9 +25,9 @@ pub enum Version {
 }
 
 /// The version that an INTEGER is.
-#[tactic(auto, unfolding(crate::specs::Version::number_of))]
+#[tactic(auto, unfolding(crate::specs::Version::version_integer))]
 fn read_number(element: Element<'_>) -> Result<Version, CertFault>
-    ensures { Answers (λ v. v) result (number_of (now element.entry)) }
+    ensures { Answers (λ v. v) result (version_integer (now element.entry)) }
 {
     match element.integer()?.octets {
         [0] => Ok(Version::V1),

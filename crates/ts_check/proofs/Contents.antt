@@ -6,7 +6,7 @@ use Rattle.ts_der.specs.Element.{Place, Tlv, Fits, StandsAt, inside, encode, enc
 use Rattle.ts_der.specs.Integer.{is_shortest, integer_rules}
 use Rattle.ts_der.specs.declared.fault.DerFault.TheVariants.{IntegerForm}
 use Rattle.ts_der.specs.Rules.{value_unless}
-use Rattle.ts_der.specs.Reading.{located, element_at, value_at, end_at}
+use Rattle.ts_der.specs.Reading.{at_element, element_at, value_at, end_at}
 use Rattle.ts_der.proofs.OctetLists.{AreOctets-part, AreOctets-back}
 use Rattle.std.proofs.lemmas.List.{append-nil}
 use Rattle.ts_der.proofs.Laws.{bind_ok, ok_is, element-found, element-only}
@@ -24,7 +24,7 @@ integer-found : (e : Tlv) (c : List ℕ) → value_at integer_rules (λ c. c) e 
 integer-found e c read = by_test (is_shortest e.content) refl read
   where
     by_test : (b : Bool) → is_shortest e.content ≡ b
-        → located {A = List ℕ} e.at (value_unless (cond (not b) (Some IntegerForm) None) e.content) ≡ Ok c → (e.content ≡ c) × (is_shortest e.content ≡ true)
+        → at_element {A = List ℕ} e.at (value_unless (cond (not b) (Some IntegerForm) None) e.content) ≡ Ok c → (e.content ≡ c) × (is_shortest e.content ≡ true)
     by_test true t r = (ok_is {E = Fault} e.content c r, t)
     by_test false t r = absurd cc
 

@@ -1,13 +1,15 @@
--- Which algorithm of signatures an AlgorithmIdentifier (RFC 5280 4.1.1.2) names: RFC 4055 3.1 and 5,
--- RFC 5758 3.2, RFC 8410 3.
-use Rattle.std.specs.Prelude.{ℕ, Bool, true, false, ◌||◌, List, [], ◌∷◌, ◌++◌, length, Option, Some, None}
+-- Which algorithm of signatures an AlgorithmIdentifier (RFC 5280 4.1.1.2) names: RFC 4055 3.1 and
+-- 5, RFC 5758 3.2, RFC 8410 3.
+use Rattle.std.specs.Prelude.{ℕ, Bool, true, false, ◌||◌, List, [], ◌∷◌, ◌++◌, length, Option, Some}
+use Rattle.std.specs.Prelude.{None}
 use Rattle.std.specs.Prelude.{if◌then◌else◌}
 use Rattle.std.specs.Str.{bytes_eq}
 use Rattle.ts_digest.specs.declared.hash.Hash.{Hash}
 use Rattle.ts_digest.specs.declared.hash.Hash.TheVariants.{Sha256, Sha384, Sha512}
 use Rattle.ts_digest.specs.Hash.{hash_size}
 use Rattle.ts_check.specs.declared.algorithm.SignatureAlgorithm.{SignatureAlgorithm}
-use Rattle.ts_check.specs.declared.algorithm.SignatureAlgorithm.TheVariants.{Pkcs1, Pss, Ecdsa, Ed25519}
+use Rattle.ts_check.specs.declared.algorithm.SignatureAlgorithm.TheVariants.{Pkcs1, Pss, Ecdsa}
+use Rattle.ts_check.specs.declared.algorithm.SignatureAlgorithm.TheVariants.{Ed25519}
 
 -- an element whose content has fewer than 128 octets (X.690 8.1.3.4)
 abbrev pub short : ℕ → List ℕ → List ℕ
@@ -48,8 +50,8 @@ hash_identifier hash with_null =
     short 0x30 (short 6 (0x60 ∷ 0x86 ∷ 0x48 ∷ 1 ∷ 0x65 ∷ 3 ∷ 4 ∷ 2 ∷ hash_arc hash ∷ [])
     ++ null_if with_null)
 
--- id-RSASSA-PSS with RSASSA-PSS-params (RFC 4055 3.1): the hash function, MGF1 (id-mgf1, 2.2) with the
--- same one in the same form, a salt as long as the hash, and the trailer that is the default
+-- id-RSASSA-PSS with RSASSA-PSS-params (RFC 4055 3.1): the hash function, MGF1 (id-mgf1, 2.2) with
+-- the same one in the same form, a salt as long as the hash, and the trailer that is the default
 abbrev pub pss_identifier : Hash → Bool → List ℕ
 pss_identifier hash with_null =
     short 0x30 (pkcs1_oid 10 ++ short 0x30 (short 0xa0 (hash_identifier hash with_null)
@@ -80,7 +82,8 @@ is_pkcs1 identifier hash =
 -- the identifier is one of RSASSA-PSS with this hash function
 unfoldable pub is_pss : List ℕ → Hash → Bool
 is_pss identifier hash =
-    bytes_eq identifier (pss_identifier hash true) || bytes_eq identifier (pss_identifier hash false)
+    bytes_eq identifier (pss_identifier hash true)
+    || bytes_eq identifier (pss_identifier hash false)
 
 -- the algorithm with this hash function that the identifier names
 unfoldable pub named_with : List ℕ → Hash → Option SignatureAlgorithm

@@ -5,4 +5,4 @@ pub mod Rsa
 pub mod Elliptic
 pub mod Edwards
 pub mod Native
-pub mod View
+pub mod inside

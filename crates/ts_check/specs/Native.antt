@@ -2,7 +2,8 @@
 use Rattle.std.specs.Prelude.{◌≡◌, ℕ, Bool, List, Some}
 use Rattle.ts_sig.specs.Key.{Key}
 use Rattle.ts_check.specs.declared.algorithm.SignatureAlgorithm.{SignatureAlgorithm}
-use Rattle.ts_check.specs.declared.algorithm.SignatureAlgorithm.TheVariants.{Pkcs1, Pss, Ecdsa, Ed25519}
+use Rattle.ts_check.specs.declared.algorithm.SignatureAlgorithm.TheVariants.{Pkcs1, Pss, Ecdsa}
+use Rattle.ts_check.specs.declared.algorithm.SignatureAlgorithm.TheVariants.{Ed25519}
 use Rattle.ts_check.specs.Algorithm.{algorithm_named}
 use Rattle.ts_check.specs.Options.{holds_of}
 use Rattle.ts_check.specs.Rsa.{pkcs1_takes, pss_takes, IsByPkcs1, IsByPss}

@@ -1,5 +1,6 @@
 -- Signatures by RSA in certificates: RFC 4055 1.2, 3 and 5.
-use Rattle.std.specs.Prelude.{◌≡◌, ◌⊎◌, ℕ, Bool, ◌&&◌, ◌||◌, List, [], ◌∷◌, length, Option, Some, None}
+use Rattle.std.specs.Prelude.{◌≡◌, ◌⊎◌, ℕ, Bool, ◌&&◌, ◌||◌, List, [], ◌∷◌, length, Option, Some}
+use Rattle.std.specs.Prelude.{None}
 use Rattle.std.specs.Prelude.{true, is_none}
 use Rattle.std.specs.Str.{bytes_eq}
 use Rattle.ts_sig.specs.Key.{Key}

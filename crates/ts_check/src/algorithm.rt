@@ -1,7 +1,9 @@
 //! Which algorithm an AlgorithmIdentifier names.
 
 ghost use Rattle.std.specs.Prelude.{◌≡◌, true, false};
-ghost use Rattle.ts_check.specs.Algorithm.{algorithm_named, ecdsa_identifier, ed25519_identifier, is_pkcs1, is_pss, named_with, pkcs1_identifier, pss_identifier};
+ghost use Rattle.ts_check.specs.Algorithm.{algorithm_named, ecdsa_identifier, ed25519_identifier};
+ghost use Rattle.ts_check.specs.Algorithm.{is_pkcs1, is_pss, named_with, pkcs1_identifier};
+ghost use Rattle.ts_check.specs.Algorithm.{pss_identifier};
 
 use ts_digest::Hash;
 

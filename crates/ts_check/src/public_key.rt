@@ -4,7 +4,7 @@ ghost use Rattle.std.specs.Prelude.{◌≡◌};
 ghost use Rattle.std.specs.Option.{option_map, option_copied};
 ghost use Rattle.ts_der.specs.Answer.{Answers};
 ghost use Rattle.ts_check.specs.PublicKey.{contents_of, magnitude_of, small_of, public_of};
-ghost use Rattle.ts_check.specs.View.{public_in};
+ghost use Rattle.ts_check.specs.inside.View.{public_in};
 
 use ts_der::tag::{INTEGER, SEQUENCE};
 use ts_der::{Fault, Reader};

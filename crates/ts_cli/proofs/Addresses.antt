@@ -16,7 +16,9 @@ addressed text (Some found) r some ok h p s k is_none = absurd (false≢true (sy
 addressed text None (Ok a) some ok h p s k is_none = (λ t. inr (a, p), λ a. k)
 addressed text None (Err e) some ok h p s k is_none = (λ t. absurd (false≢true (sym k ∙ t)), λ a. elim a [ inl b ↦ absurd (h b.0 b.1 b.2) | inr b ↦ absurd (p b.0 b.1) ])
 
-pub by_host : (text : List ℕ) (o : Option (Bor (List ℕ) × ℕ)) → MatchOption o ((host : List ℕ) (port : ℕ) → ¬ (IsAddress text host port)) (λ found. IsAddress text found.0.now found.1) → is_some o ≡ true → IsAddressed text
+pub by_host : (text : List ℕ) (o : Option (Bor (List ℕ) × ℕ))
+    → MatchOption o ((host : List ℕ) (port : ℕ) → ¬ (IsAddress text host port))
+    (λ found. IsAddress text found.0.now found.1) → is_some o ≡ true → IsAddressed text
 unfolding IsAddressed
 by_host text None h s = absurd (false≢true s)
 by_host text (Some found) h s = inl (found.0.now, found.1, h)

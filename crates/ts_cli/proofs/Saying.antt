@@ -2,12 +2,15 @@
 use Rattle.std.proofs.Common.{◌≡◌, ◌≤◌, ℕ, List, Option, Some, None, MatchOption, codes, string_bytes, arith}
 use Rattle.std.proofs.lemmas.List.{length-map}
 use Rattle.clap.specs.Walk.{Text, Row, first_of}
-use Rattle.ts_cli.specs.Values.{IsNumberIn}
+use Rattle.ts_literal.specs.Literals.{IsNumberIn}
 use Rattle.ts_cli.specs.Serving.{IsServe, IsServable}
 use Rattle.ts_cli.specs.declared.serve_words.ServeWords.{ServeWords}
 use Rattle.ts_cli.specs.Says.{SaysTask, SaysAny, IsInRange}
 use Rattle.ts_cli.specs.declared.task.Task.{Task}
-use Rattle.ts_cli.specs.declared.task.Task.TheVariants.{Lab, Format, Migrate, Serve, Verify, Submit, Ask, Carry, Status, Identify, CatchUp, Compact, Command, Question, Id, Show, Keygen, Store, Log, Diff, Sync}
+use Rattle.ts_cli.specs.declared.task.Task.TheVariants.{Lab, Format, Migrate, Serve, Verify, Submit}
+use Rattle.ts_cli.specs.declared.task.Task.TheVariants.{Ask, Carry, Status, Identify, CatchUp}
+use Rattle.ts_cli.specs.declared.task.Task.TheVariants.{Compact, Command, Question, Id, Show}
+use Rattle.ts_cli.specs.declared.task.Task.TheVariants.{Keygen, Store, Log, Diff, Sync}
 
 pub says_any : (own : List Row) (name : Text) (rows : List Row) (task : Task) → SaysTask name rows task → SaysAny own name rows task
 says_any own name rows (Command words) says = absurd says

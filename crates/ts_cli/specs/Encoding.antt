@@ -4,20 +4,20 @@ use Rattle.ts_store.specs.declared.command.Command.{Command}
 use Rattle.ts_store.specs.declared.command.Command.TheVariants.{AddAnchor, WithdrawAnchor, LoadCrl}
 use Rattle.ts_store.specs.declared.command.Command.TheVariants.{DropCrl, SetPurposes}
 use Rattle.ts_store.specs.declared.command.Command.TheVariants as command
-use Rattle.ts_question.specs.Question.{Asked}
+use Rattle.ts_question.specs.Question.{StoreQuestion}
 use Rattle.ts_question.specs.declared.terms.Terms.{Terms}
 use Rattle.ts_question.specs.declared.question.Target.{Target}
 use Rattle.ts_question.specs.declared.question.Target.TheVariants as target
-use Rattle.ts_cli.specs.declared.command_words.Change.{Change}
-use Rattle.ts_cli.specs.declared.command_words.Change.TheVariants.{Add, Withdraw, Load, Drop}
-use Rattle.ts_cli.specs.declared.command_words.Change.TheVariants.{Purposes, Noop}
+use Rattle.ts_cli.specs.declared.command_words.CommandAction.{CommandAction}
+use Rattle.ts_cli.specs.declared.command_words.CommandAction.TheVariants.{Add, Withdraw, Load, Drop}
+use Rattle.ts_cli.specs.declared.command_words.CommandAction.TheVariants.{Purposes, Noop}
 use Rattle.ts_cli.specs.declared.question_words.QuestionWords.{QuestionWords}
 use Rattle.ts_cli.specs.declared.question_words.TermWords.{TermWords}
 use Rattle.ts_cli.specs.declared.question_words.Subject.{Subject}
 use Rattle.ts_cli.specs.declared.question_words.Subject.TheVariants.{Chain, Search}
 
 -- the command of an id that does a change, with the octets of its file
-abbrev pub command_in : List ℕ → Change → List ℕ → Command
+abbrev pub command_in : List ℕ → CommandAction → List ℕ → Command
 command_in id (Add file) contents = AddAnchor id contents
 command_in id (Withdraw anchor) contents = WithdrawAnchor id anchor
 command_in id (Load file issuers unchecked) contents = LoadCrl id contents
@@ -26,7 +26,7 @@ command_in id (Purposes anchor purposes) contents = SetPurposes id anchor purpos
 command_in id Noop contents = command.Noop id
 
 -- the file is longer than a command holds
-abbrev pub is_too_long : Change → List ℕ → Bool
+abbrev pub is_too_long : CommandAction → List ℕ → Bool
 is_too_long (Add file) contents = nat_lt 65536 (length contents)
 is_too_long (Withdraw anchor) contents = false
 is_too_long (Load file issuers unchecked) contents = nat_lt 4194304 (length contents)
@@ -51,6 +51,6 @@ target_in (Chain anchor) certificates = target.Chain anchor certificates
 target_in Search certificates = target.Search certificates
 
 -- the question that words ask about certificates
-abbrev pub asked_in : QuestionWords → List (List ℕ) → Asked
+abbrev pub asked_in : QuestionWords → List (List ℕ) → StoreQuestion
 asked_in words certificates = record
     { terms = terms_in words.terms; target = target_in words.subject certificates }

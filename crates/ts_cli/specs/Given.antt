@@ -5,7 +5,7 @@ use Rattle.std.specs.Option.{option_map_or}
 use Rattle.std.specs.Str.{bytes_eq}
 use Rattle.clap.specs.Walk.{Row, Text, all_of, first_of}
 use Rattle.ts_time.specs.Text.{IsGeneral}
-use Rattle.ts_cli.specs.Values.{IsNumberIn, IsHex}
+use Rattle.ts_literal.specs.Literals.{IsHex, IsNumberIn}
 
 -- an argument gives this text
 abbrev pub IsAt : Text → List Row → Text → Type 0

@@ -1,11 +1,13 @@
 -- The task that a command line asks for: its subcommand, and what that is given.
-use Rattle.std.specs.Prelude.{◌≡◌, ◌≤◌, ℕ, Bool, List, [], ◌∷◌, IsPermutation, length, map, option_map}
+use Rattle.std.specs.Prelude.{◌≡◌, ◌≤◌, ℕ, Bool, List, [], ◌∷◌, IsPermutation, length, map}
+use Rattle.std.specs.Prelude.{option_map}
 use Rattle.std.specs.Prelude.{Option, Some, None, codes, string_bytes}
 use Rattle.std.specs.List.{AllByRecursion}
 use Rattle.clap.specs.Walk.{Row, Text, first_of}
 use Rattle.clap.specs.Simple.{App, matches_of, subcommand_of}
 use Rattle.ts_cli.specs.CommandLine.{app_in, group_of, words_in}
-use Rattle.ts_cli.specs.Values.{IsAddressed, IsNumberIn, IsHex, IsDotted, AsWritten, written}
+use Rattle.ts_literal.specs.Literals.{IsHex, IsNumberIn}
+use Rattle.ts_cli.specs.Values.{IsAddressed, IsDotted, AsWritten, written}
 use Rattle.ts_cli.specs.Serving.{IsServe, IsServable}
 use Rattle.ts_cli.specs.Reaching.{IsReach, IsRole}
 use Rattle.ts_cli.specs.declared.reach.Reach.{Reach}
@@ -15,16 +17,17 @@ use Rattle.ts_cli.specs.Given.{IsAt, IsNumberAt, IsNumberOr, IsDigestAt, IsMomen
 use Rattle.ts_cli.specs.Given.{is_set}
 use Rattle.ts_question.specs.declared.terms.Flags.{Flags}
 use Rattle.ts_cli.specs.declared.command_words.CommandWords.{CommandWords}
-use Rattle.ts_cli.specs.declared.command_words.Change.{Change}
-use Rattle.ts_cli.specs.declared.command_words.Change.TheVariants.{Add, Withdraw, Load, Drop}
-use Rattle.ts_cli.specs.declared.command_words.Change.TheVariants.{Purposes, Noop}
+use Rattle.ts_cli.specs.declared.command_words.CommandAction.{CommandAction}
+use Rattle.ts_cli.specs.declared.command_words.CommandAction.TheVariants.{Add, Withdraw, Load, Drop}
+use Rattle.ts_cli.specs.declared.command_words.CommandAction.TheVariants.{Purposes, Noop}
 use Rattle.ts_cli.specs.declared.question_words.QuestionWords.{QuestionWords}
 use Rattle.ts_cli.specs.declared.question_words.TermWords.{TermWords}
 use Rattle.ts_cli.specs.declared.question_words.Subject.{Subject}
 use Rattle.ts_cli.specs.declared.question_words.Subject.TheVariants.{Chain, Search}
 use Rattle.ts_cli.specs.declared.task.Task.{Task}
 use Rattle.ts_cli.specs.declared.task.Task.TheVariants.{Lab, Format, Migrate, Serve, Verify, Submit}
-use Rattle.ts_cli.specs.declared.task.Task.TheVariants.{Ask, Carry, Status, CatchUp, Compact, Command}
+use Rattle.ts_cli.specs.declared.task.Task.TheVariants.{Ask, Carry, Status, CatchUp, Compact}
+use Rattle.ts_cli.specs.declared.task.Task.TheVariants.{Command}
 use Rattle.ts_cli.specs.declared.task.Task.TheVariants.{Question, Id, Show, Keygen, Identify}
 use Rattle.ts_cli.specs.declared.task.Task.TheVariants.{Store, Log, Diff, Sync}
 
@@ -118,7 +121,7 @@ pub record IsSetting (name : Text) (rows : List Row) (anchor : List ℕ)
   pub given_are : map written given ≡ all_at (codes "purposes") rows
   pub purposes_are : ArePurposesOf given purposes
 
-abbrev pub SaysChange : Text → List Row → Change → Type 0
+abbrev pub SaysChange : Text → List Row → CommandAction → Type 0
 SaysChange name rows (Add file) = IsReading name (codes "add") rows (string_bytes file)
 SaysChange name rows (Withdraw anchor) =
     IsNaming name (codes "withdraw") rows (codes "anchor") anchor

@@ -1,24 +1,11 @@
--- What words write: numbers, addresses, ids, moments and object identifiers.
-use Rattle.std.specs.Prelude.{◌≡◌, ◌≢◌, ◌<◌, ◌≤◌, ◌==◌, ◌^◌, ℕ, List, [], length, Option, Some}
-use Rattle.std.specs.Prelude.{None, ◌⊎◌}
+-- What words write: addresses, peers and object identifiers.
+use Rattle.std.specs.Prelude.{◌≡◌, ◌≢◌, ◌==◌, ◌⊎◌, ℕ, List, [], Option, Some, None}
 use Rattle.std.specs.List.{before_first, after_first}
 use Rattle.std.specs.Net.Grammar.{IsSocketV6Text}
 use Rattle.std.specs.declared.net.SocketAddrV6.{SocketAddrV6}
-use Rattle.std.specs.Fmt.{decimal}
-use Rattle.hex.specs.Hex.{encode_lower, IsBytes}
 use Rattle.ts_der.specs.ObjectIdentifier.{arcs}
-use Rattle.ts_der.specs.Dotted.{dotted}
-
--- a number below 2^32, in decimal without leading zeros
-pub record IsNumber (text : List ℕ) (number : ℕ) : Type 0 where
-  pub written : text ≡ decimal number
-  pub range : number < 2 ^ 32
-
--- the same, from one number to another
-pub record IsNumberIn (least most : ℕ) (text : List ℕ) (number : ℕ) : Type 0 where
-  pub is : IsNumber text number
-  pub from : least ≤ number
-  pub to : number ≤ most
+use Rattle.ts_der.specs.Dotted.{dotted_text}
+use Rattle.ts_literal.specs.Literals.{IsNumberIn}
 
 -- a host, which is not empty and has no colon, a colon, and a port
 pub record IsAddress (text host : List ℕ) (port : ℕ) : Type 0 where
@@ -41,15 +28,9 @@ pub record IsPeer (text : List ℕ) (node : ℕ) (address : List ℕ) : Type 0 w
 abbrev pub NamesPeer : List ℕ → Type 0
 NamesPeer text = (node : ℕ) × (address : List ℕ) × IsPeer text node address
 
--- so many octets, in lower-case hexadecimal digits
-pub record IsHex (size : ℕ) (text octets : List ℕ) : Type 0 where
-  pub written : text ≡ encode_lower octets
-  pub count : length octets ≡ size
-  pub bytes : IsBytes octets
-
 -- the dotted form of contents octets
 abbrev pub written : List ℕ → List ℕ
-written content = dotted (arcs content)
+written content = dotted_text (arcs content)
 
 -- the contents octets of the object identifier of a dotted form
 abbrev pub IsDotted : List ℕ → List ℕ → Type 0

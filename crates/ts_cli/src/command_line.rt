@@ -39,7 +39,7 @@ pub fn task_of_process(rt: &(impl AllocGlobal + Env)) -> Result<Task, CommandFau
 }
 
 /// The subcommand that was named, with what it was given.
-fn given<'m, 'a>(matches: &'m ArgMatches<'a>) -> Option<(&'a str, &'m ArgMatches<'a>)>
+fn subcommand_given<'m, 'a>(matches: &'m ArgMatches<'a>) -> Option<(&'a str, &'m ArgMatches<'a>)>
     ensures { option_map (λ p. (p.0.now, rows_of (found_of p.1.now))) result
         ≡ subcommand_rows_of matches.now }
 {
@@ -53,7 +53,7 @@ fn program_task<'a, S: AsStr>(alloc: Global, words: &'a [S]) -> Result<Task, Com
     ensures asked { IfOk result (Asks shapes.program (map S.text words.entry.now)) }
 {
     let matches = program(alloc)?.try_get_matches_from(words)?;
-    match given(&matches) {
+    match subcommand_given(&matches) {
         Some((name, inner)) => task_named(alloc, name, inner),
         None => Err(CommandFault::Value(WrongValue::Missing)),
     }
@@ -65,7 +65,7 @@ fn command_task<'a, S: AsStr>(alloc: Global, words: &'a [S]) -> Result<Task, Com
     ensures asked { IfOk result (Asks shapes.commands (map S.text words.entry.now)) }
 {
     let matches = commands(alloc)?.try_get_matches_from(words)?;
-    match given(&matches) {
+    match subcommand_given(&matches) {
         Some((name, inner)) => {
             let words = command_named(alloc, &matches, name, inner)?;
             Ok(Task::Command(words))
@@ -80,7 +80,7 @@ fn question_task<'a, S: AsStr>(alloc: Global, words: &'a [S]) -> Result<Task, Co
     ensures asked { IfOk result (Asks shapes.questions (map S.text words.entry.now)) }
 {
     let matches = questions(alloc)?.try_get_matches_from(words)?;
-    match given(&matches) {
+    match subcommand_given(&matches) {
         Some((name, inner)) => {
             let words = question_named(alloc, name, inner)?;
             Ok(Task::Question(words))

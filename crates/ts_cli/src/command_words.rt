@@ -3,16 +3,17 @@
 ghost use Rattle.std.specs.Prelude.{◌≡◌, IfOk, codes};
 ghost use Rattle.clap.specs.Matches.{found_of};
 ghost use Rattle.clap.specs.Walk.{rows_of, first_of};
-ghost use Rattle.ts_cli.specs.Values.{IsHex, AsWritten};
+ghost use Rattle.ts_literal.specs.Literals.{IsHex};
+ghost use Rattle.ts_cli.specs.Values.{AsWritten};
 ghost use Rattle.ts_cli.specs.Given.{IsDigestAt};
 ghost use Rattle.ts_cli.specs.Says.{SaysChange, SaysCommand};
 
 use crate::fault::{CommandFault, WrongValue};
 use crate::matched::{is_set, string_at, strings_at, text_at, value_at};
 use crate::oids::{oids_at, purposes_of};
-use crate::values::{digest_of, id_of};
 use clap::ArgMatches;
 use std::alloc::Global;
+use ts_literal::{digest_of, id_of};
 use ts_store::Purposes;
 
 /// The words of a command.
@@ -23,12 +24,12 @@ pub struct CommandWords {
     /// Whether the command is written though the store will refuse its file.
     pub force: bool,
     /// What the command does.
-    pub change: Change,
+    pub change: CommandAction,
 }
 
 /// What a command does.
 #[derive(Debug, Drop)]
-pub enum Change {
+pub enum CommandAction {
     /// Adds a trust anchor.
     Add {
         /// The certificate.
@@ -90,38 +91,42 @@ fn command_id(matches: &ArgMatches<'_>) -> Result<Option<[u8; 16]>, CommandFault
 }
 
 /// The change that `trustd command purposes` asks for: an anchor's purposes are set to these.
-fn purposes(alloc: Global, matches: &ArgMatches<'_>) -> Result<Change, CommandFault>
+fn purposes(alloc: Global, matches: &ArgMatches<'_>) -> Result<CommandAction, CommandFault>
     ensures { IfOk result (SaysChange (codes "purposes") (rows_of (found_of matches.now))) }
 {
     let anchor = digest_at(matches, "anchor")?;
     let oids = oids_at(alloc, matches, "purposes")?;
-    Ok(Change::Purposes {
+    Ok(CommandAction::Purposes {
         anchor,
         purposes: purposes_of(oids)?,
     })
 }
 
 /// What a subcommand of `trustd command` says that the command does.
-fn change_named(alloc: Global, name: &str, matches: &ArgMatches<'_>) -> Result<Change, CommandFault>
+fn change_named(
+    alloc: Global,
+    name: &str,
+    matches: &ArgMatches<'_>,
+) -> Result<CommandAction, CommandFault>
     ensures { IfOk result (SaysChange name.now (rows_of (found_of matches.now))) }
 {
     match name {
-        "add" => Ok(Change::Add {
+        "add" => Ok(CommandAction::Add {
             file: string_at(alloc, matches, "file")?,
         }),
-        "withdraw" => Ok(Change::Withdraw {
+        "withdraw" => Ok(CommandAction::Withdraw {
             anchor: digest_at(matches, "anchor")?,
         }),
-        "load" => Ok(Change::Load {
+        "load" => Ok(CommandAction::Load {
             file: string_at(alloc, matches, "file")?,
             issuers: strings_at(alloc, matches, "issuer")?,
             unchecked: is_set(matches, "unchecked"),
         }),
-        "drop" => Ok(Change::Drop {
+        "drop" => Ok(CommandAction::Drop {
             list: digest_at(matches, "list")?,
         }),
         "purposes" => purposes(alloc, matches),
-        "noop" => Ok(Change::Noop),
+        "noop" => Ok(CommandAction::Noop),
         _ => Err(CommandFault::Value(WrongValue::Missing)),
     }
 }

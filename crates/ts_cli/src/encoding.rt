@@ -12,7 +12,7 @@ ghost use Rattle.ts_cli.specs.Encoding.{command_in, is_too_long, terms_in, asked
 ghost use Rattle.ts_cli.specs.declared.encoding.MakeFault.TheVariants.{Memory, TooLong};
 ghost use Rattle.ts_cli.specs.declared.encoding.MakeFault.TheVariants.{OutOfLimits};
 
-use crate::command_words::Change;
+use crate::command_words::CommandAction;
 use crate::question_words::{QuestionWords, Subject, TermWords};
 use sha2::{Digest, Sha256};
 use std::alloc::{AllocError, AllocFailed, Global};
@@ -51,15 +51,16 @@ impl<T: Drop> From<AllocFailed<T>> for MakeFault {
 }
 
 /// Whether the file of a change is longer than a command holds.
-fn is_too_long(change: &Change, contents: &[u8]) -> bool
+fn is_too_long(change: &CommandAction, contents: &[u8]) -> bool
     ensures { result ≡ is_too_long change.now contents.now }
 {
     match change {
-        Change::Add { .. } => contents.len() > MAX_CERTIFICATE,
-        Change::Load { .. } => contents.len() > MAX_CRL,
-        Change::Withdraw { .. } | Change::Drop { .. } | Change::Purposes { .. } | Change::Noop => {
-            false
-        }
+        CommandAction::Add { .. } => contents.len() > MAX_CERTIFICATE,
+        CommandAction::Load { .. } => contents.len() > MAX_CRL,
+        CommandAction::Withdraw { .. }
+        | CommandAction::Drop { .. }
+        | CommandAction::Purposes { .. }
+        | CommandAction::Noop => { false }
     }
 }
 
@@ -108,7 +109,7 @@ fn set(
 fn command_in(
     alloc: Global,
     id: [u8; 16],
-    change: &Change,
+    change: &CommandAction,
     contents: &[u8],
 ) -> Result<Command, MakeFault>
     ensures made { IfOk result (λ command. command ≡ command_in id change.now contents.now) }
@@ -116,15 +117,15 @@ fn command_in(
         (λ fault. (fault ≡ Memory) ⊎ (is_too_long change.now contents.now ≡ true)) }
 {
     match change {
-        Change::Add { .. } => add(alloc, id, contents),
-        Change::Withdraw { anchor } => Ok(Command::WithdrawAnchor {
+        CommandAction::Add { .. } => add(alloc, id, contents),
+        CommandAction::Withdraw { anchor } => Ok(Command::WithdrawAnchor {
             id,
             anchor: *anchor,
         }),
-        Change::Load { .. } => load(alloc, id, contents),
-        Change::Drop { list } => Ok(Command::DropCrl { id, crl: *list }),
-        Change::Purposes { anchor, purposes } => Ok(set(alloc, id, *anchor, purposes)?),
-        Change::Noop => Ok(Command::Noop { id }),
+        CommandAction::Load { .. } => load(alloc, id, contents),
+        CommandAction::Drop { list } => Ok(Command::DropCrl { id, crl: *list }),
+        CommandAction::Purposes { anchor, purposes } => Ok(set(alloc, id, *anchor, purposes)?),
+        CommandAction::Noop => Ok(Command::Noop { id }),
     }
 }
 
@@ -138,13 +139,14 @@ fn command_in(
 pub fn command_octets(
     alloc: Global,
     id: &[u8; 16],
-    change: &Change,
+    change: &CommandAction,
     contents: &[u8],
 ) -> Result<Vec<u8>, MakeFault>
     // The octets are the one encoding of that command, which fits its limits.
     ensures made { IfOk result (λ octets. octets.items
-        ≡ commands.encoding (command_in id.now change.now contents.now)) }
-    ensures fits { IfOk result (λ _. commands.Fits (command_in id.now change.now contents.now)) }
+        ≡ commands.command_encoding (command_in id.now change.now contents.now)) }
+    ensures fits { IfOk result (λ _. commands.CommandFits
+        (command_in id.now change.now contents.now)) }
     // A file is too long exactly where the limits say so, and else only memory is wanting.
     ensures long { is_too_long change.now contents.now ≡ true → result ≡ Err TooLong }
     ensures memory { is_too_long change.now contents.now ≡ false
@@ -220,8 +222,8 @@ pub fn question_octets(
 ) -> Result<Vec<u8>, MakeFault>
     // The octets are the one encoding of that question, which is within its limits.
     ensures made { IfOk result (λ octets. octets.items
-        ≡ questions.encoding (asked_in words.now (map (λ c. c.items) certificates.now))) }
-    ensures fits { IfOk result (λ _. questions.Fits
+        ≡ questions.question_encoding (asked_in words.now (map (λ c. c.items) certificates.now))) }
+    ensures fits { IfOk result (λ _. questions.QuestionFits
         (asked_in words.now (map (λ c. c.items) certificates.now))) }
     // It is refused where it is outside its limits, and else only memory is wanting.
     ensures refused { IfErr result (λ fault. (fault ≡ Memory)

@@ -25,8 +25,8 @@
 //!   `refused`: `OutOfLimits` only where that is outside its limits.
 //! - [`id_text`]: the SHA-256 in lower-case hexadecimal digits, by which a store knows an anchor or
 //!   a list.
-//! - [`address_of`]: the host and the port, exactly where a text is these; [`is_address`]: it is, or
-//!   it is an IPv6 address in brackets and a port.
+//! - [`address_of`]: the host and the port, exactly where a text is these; [`is_address`]: it is,
+//!   or it is an IPv6 address in brackets and a port.
 //!
 //! Gaps. No clause says that words whose values are all right have a task, but for `trustd lab`:
 //! that is tested. Nor is there one for the text of help and of errors, nor for which words a
@@ -60,7 +60,7 @@ mod values;
 mod verify_words;
 
 pub use command_line::{task_of, task_of_process};
-pub use command_words::{Change, CommandWords};
+pub use command_words::{CommandAction, CommandWords};
 pub use encoding::{MakeFault, command_octets, id_text, question_octets};
 pub use fault::{CommandFault, WrongValue, report};
 pub use question_words::{QuestionWords, Subject, TermWords};

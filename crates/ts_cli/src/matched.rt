@@ -8,9 +8,10 @@ ghost use Rattle.ts_cli.specs.Values.{IsAddressed, NamesPeer};
 ghost use Rattle.ts_cli.specs.Given.{IsNumberAt, IsNumberOr, all_at, is_set};
 
 use crate::fault::{CommandFault, WrongValue};
-use crate::values::{is_address, number_in, peer_of};
+use crate::values::{is_address, peer_of};
 use clap::ArgMatches;
 use std::alloc::{AllocError, Global};
+use ts_literal::number_in;
 
 /// The value of an argument, if it has one.
 pub(crate) fn value_at<'a>(matches: &ArgMatches<'a>, id: &str) -> Option<&'a str>

@@ -3,7 +3,8 @@
 ghost use Rattle.std.specs.Prelude.{◌≡◌, ◌≤◌, ℤ, IfOk, codes, map, length, string_bytes};
 ghost use Rattle.clap.specs.Matches.{found_of};
 ghost use Rattle.clap.specs.Walk.{rows_of, first_of};
-ghost use Rattle.ts_cli.specs.Values.{IsNumberIn, AsWritten, written};
+ghost use Rattle.ts_literal.specs.Literals.{IsNumberIn};
+ghost use Rattle.ts_cli.specs.Values.{AsWritten, written};
 ghost use Rattle.ts_cli.specs.Given.{IsMomentAt, all_at};
 ghost use Rattle.ts_cli.specs.Says.{SaysQuestion, flags_in, AreTerms, AreFiles, IsSearched};
 
@@ -11,10 +12,11 @@ use crate::command_words::digest_at;
 use crate::fault::{CommandFault, WrongValue};
 use crate::matched::{is_set, string_at, strings_at, text_at, value_at};
 use crate::oids::{oid_at, oids_at};
-use crate::values::{moment_of, number_in};
+use crate::values::moment_of;
 use clap::ArgMatches;
 use std::alloc::Global;
 use ts_der::Oid;
+use ts_literal::number_in;
 use ts_question::{Flags, MAX_CHAIN, MAX_POLICIES, MAX_POSITION, MAX_SEARCH, Oids};
 
 /// The words of a question.

@@ -1,11 +1,11 @@
 //! What words write.
 
-ghost use Rattle.std.specs.Prelude.{◌≡◌, ◌↔◌, ◌*◌, ℕ, ℤ, List, length, IfSome, IsTrue, MatchOption};
-ghost use Rattle.std.specs.Bool.{MatchBool};
+ghost use Rattle.std.specs.Prelude.{◌↔◌, ℕ, ℤ, List, IfSome, IsTrue, MatchOption};
 ghost use Rattle.ts_time.specs.Text.{IsGeneral};
-ghost use Rattle.ts_cli.specs.Values.{IsNumber, IsNumberIn, IsAddress, IsAddressed, IsHex, IsPeer};
+ghost use Rattle.ts_cli.specs.Values.{IsAddress, IsAddressed, IsPeer};
 
 use std::net::SocketAddrV6;
+use ts_literal::number_in;
 use ts_time::{Moment, read_general};
 
 /// Stands between the host and the port of an address.
@@ -13,27 +13,6 @@ const COLON: char = ':';
 
 /// Stands between the number of a peer and its address.
 const EQUALS: char = '=';
-
-/// The number that a text writes in decimal, without leading zeros.
-fn number_of(text: &str) -> Option<u32>
-    ensures { MatchOption result ((n : ℕ) → ¬ (IsNumber text.now n)) (IsNumber text.now) }
-{
-    let number: u32 = text.parse().ok()?;
-    let mut encoding = itoa::Buffer::new();
-    (encoding.format(number) == text).then_some(number)
-}
-
-/// The number that a text writes, where it is from `least` to `most`.
-pub(crate) fn number_in(text: &str, least: u32, most: u32) -> Option<u32>
-    ensures { MatchOption result ((n : ℕ) → ¬ (IsNumberIn least most text.now n))
-        (IsNumberIn least most text.now) }
-{
-    let number = number_of(text)?;
-    if number < least || most < number {
-        return None;
-    }
-    Some(number)
-}
 
 /// The host and the port of an address: a host, which is not empty and has no colon, a colon, and a
 /// port of 0 to 65,535 in decimal without leading zeros. `None` exactly where the text is no
@@ -71,48 +50,6 @@ pub fn peer_of(text: &str) -> Option<(u8, &str)>
         return None;
     }
     Some((node as u8, address))
-}
-
-/// Writes the octets that a text writes in lower-case hexadecimal digits, if it writes so many;
-/// else the octets are left as they may be. There is room for the digits.
-fn hex_into(text: &str, octets: &mut [u8], digits: &mut [u8]) -> bool
-    requires { length digits.now ≡ 2 * length octets.now }
-    ensures { MatchBool result (IsHex (length octets.old) text.now octets.new)
-        ((xs : List ℕ) → ¬ (IsHex (length octets.old) text.now xs)) }
-{
-    if hex::decode_to_slice(text, octets).is_err() {
-        return false;
-    }
-    if hex::encode_to_slice(&*octets, digits).is_err() {
-        return false;
-    }
-    &*digits == text.as_bytes()
-}
-
-/// The 32 octets that a text writes in lower-case hexadecimal digits.
-pub(crate) fn digest_of(text: &str) -> Option<[u8; 32]>
-    ensures { MatchOption result ((octets : List ℕ) → ¬ (IsHex 32 text.now octets))
-        (IsHex 32 text.now) }
-{
-    let mut octets = [0; 32];
-    if hex_into(text, &mut octets, &mut [0; 64]) {
-        Some(octets)
-    } else {
-        None
-    }
-}
-
-/// The 16 octets that a text writes in lower-case hexadecimal digits.
-pub(crate) fn id_of(text: &str) -> Option<[u8; 16]>
-    ensures { MatchOption result ((octets : List ℕ) → ¬ (IsHex 16 text.now octets))
-        (IsHex 16 text.now) }
-{
-    let mut octets = [0; 16];
-    if hex_into(text, &mut octets, &mut [0; 32]) {
-        Some(octets)
-    } else {
-        None
-    }
 }
 
 /// The moment that a text names as a GeneralizedTime.

@@ -4,11 +4,11 @@ use Rattle.ts_store.specs.declared.outcome.Outcome.{Outcome}
 use Rattle.ts_store.specs.declared.outcome.Outcome.TheVariants.{Applied, Repeated, Refused}
 use Rattle.ts_question.specs.declared.reply.Reply.{Reply}
 use Rattle.ts_question.specs.declared.reply.Reply.TheVariants.{Valid, Found}
-use Rattle.ts_client.specs.declared.ended.Ended.{Ended}
-use Rattle.ts_client.specs.declared.ended.Ended.TheVariants as ended
+use Rattle.ts_client.specs.declared.ended.Ending.{Ending}
+use Rattle.ts_client.specs.declared.ended.Ending.TheVariants as ended
 
 -- a command that was refused; one that was applied, now or before, ends well
-abbrev pub ending_of : Outcome → Ended
+abbrev pub ending_of : Outcome → Ending
 ending_of Applied = ended.Well
 ending_of (Repeated position) = ended.Well
 ending_of (Refused refusal) = ended.Refused
@@ -20,5 +20,5 @@ is_valid (Found anchor places policies) = true
 is_valid reply = false
 
 -- any answer ends well, unless the check asks for a valid chain
-abbrev pub ending_by : Bool → Reply → Ended
+abbrev pub ending_by : Bool → Reply → Ending
 ending_by check reply = if check && not (is_valid reply) then ended.Refused else ended.Well

@@ -1,6 +1,6 @@
 //! The clock.
 
-use crate::fault::Fault;
+use crate::fault::TaskFault;
 use std::rt::Clock;
 use std::time::{SystemTime, UNIX_EPOCH};
 use ts_time::Moment;
@@ -10,12 +10,12 @@ use ts_time::Moment;
 /// # Errors
 ///
 /// `Clock` where it gives none after 1970.
-pub(crate) fn now<R: Clock>(rt: &R) -> Result<Moment, Fault> {
+pub(crate) fn now<R: Clock>(rt: &R) -> Result<Moment, TaskFault> {
     let Ok(now) = SystemTime::now(rt) else {
-        return Err(Fault::Clock);
+        return Err(TaskFault::Clock);
     };
     match now.duration_since(UNIX_EPOCH) {
         Ok(past) if past.as_secs() <= i64::MAX as u64 => Ok(Moment(past.as_secs() as i64)),
-        _ => Err(Fault::Clock),
+        _ => Err(TaskFault::Clock),
     }
 }

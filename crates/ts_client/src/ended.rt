@@ -8,7 +8,7 @@ use ts_store::Outcome;
 
 /// How a task that did not fail ended.
 #[derive(Clone, Copy, Debug, PartialEq, Eq)]
-pub enum Ended {
+pub enum Ending {
     /// The program ends with 0.
     Well,
     /// A command was refused, or no valid chain was answered where one is asked for: the program
@@ -17,12 +17,12 @@ pub enum Ended {
 }
 
 /// How the submission of a command ends that came to this.
-pub fn ending_of(outcome: Outcome) -> Ended
+pub fn ending_of(outcome: Outcome) -> Ending
     ensures { result ≡ ending_of outcome }
 {
     match outcome {
-        Outcome::Applied | Outcome::Repeated(_) => Ended::Well,
-        Outcome::Refused(_) => Ended::Refused,
+        Outcome::Applied | Outcome::Repeated(_) => Ending::Well,
+        Outcome::Refused(_) => Ending::Refused,
     }
 }
 
@@ -38,11 +38,11 @@ fn is_valid(reply: &Reply) -> bool
 
 /// How a question ends that is replied to so: well, unless a valid chain is asked for and none is
 /// answered.
-pub fn ending_by(check: bool, reply: &Reply) -> Ended
+pub fn ending_by(check: bool, reply: &Reply) -> Ending
     ensures { result ≡ ending_by check reply.now }
 {
     if check && !is_valid(reply) {
-        return Ended::Refused;
+        return Ending::Refused;
     }
-    Ended::Well
+    Ending::Well
 }

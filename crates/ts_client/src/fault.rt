@@ -1,20 +1,20 @@
 //! Why a task fails.
 
 ghost use Rattle.std.specs.Prelude.{◌≡◌};
-ghost use Rattle.ts_client.specs.declared.fault.Fault.TheVariants as fault;
+ghost use Rattle.ts_client.specs.declared.fault.TaskFault.TheVariants as fault;
 
 use std::alloc::{AllocError, AllocFailed};
 use std::fmt;
 use ts_cli::MakeFault;
 use ts_lab::text::fault_name;
-use ts_node::NodeFault as NodeCallFault;
 use ts_serve::ServeFault;
 use ts_sig::TableFault;
-use ts_wire::{FrameFault, NodeFault};
+use ts_synod::NodeFault;
+use ts_wire::FrameFault;
 
 /// Why a task fails. The program prints its name, and ends with 1.
 #[derive(Clone, Copy, Debug, PartialEq, Eq)]
-pub enum Fault {
+pub enum TaskFault {
     /// Memory was refused.
     Memory,
     /// A file can't be opened, read or made; or a record is to be made where octets are.
@@ -42,7 +42,7 @@ pub enum Fault {
     /// The system gives no random octets.
     Random,
     /// A record can't be opened or made.
-    Record(ts_record::Fault),
+    Record(ts_record::RecordFault),
     /// A connection was not accepted or an address can't be listened on, or a read failed.
     Read,
     /// A connection was not made, or a write failed.
@@ -59,61 +59,49 @@ pub enum Fault {
 
 /// The name of the reason, with the offset or the line where it has one: `Damaged(35)`,
 /// `TableLine(3)`, `Kind`.
-impl fmt::Display for Fault {
+impl fmt::Display for TaskFault {
     fn fmt<W: fmt::Write>(&self, f: &mut fmt::Formatter<W>) -> fmt::Result {
         let name = match self {
-            Fault::Memory => "Memory",
-            Fault::File => "File",
-            Fault::Busy => "Busy",
-            Fault::Clock => "Clock",
-            Fault::Unknown => "Unknown",
-            Fault::Field => "Field",
-            Fault::BadCrl => "BadCrl",
-            Fault::TooLong => "TooLong",
-            Fault::OutOfLimits => "OutOfLimits",
-            Fault::TableLine(number) => return write!(f, "TableLine({number})"),
-            Fault::KeyLine(number) => return write!(f, "KeyLine({number})"),
-            Fault::Unprotected => "Unprotected",
-            Fault::Random => "Random",
-            Fault::Record(ts_record::Fault::Damaged(offset)) => return write!(
+            TaskFault::Memory => "Memory",
+            TaskFault::File => "File",
+            TaskFault::Busy => "Busy",
+            TaskFault::Clock => "Clock",
+            TaskFault::Unknown => "Unknown",
+            TaskFault::Field => "Field",
+            TaskFault::BadCrl => "BadCrl",
+            TaskFault::TooLong => "TooLong",
+            TaskFault::OutOfLimits => "OutOfLimits",
+            TaskFault::TableLine(number) => return write!(f, "TableLine({number})"),
+            TaskFault::KeyLine(number) => return write!(f, "KeyLine({number})"),
+            TaskFault::Unprotected => "Unprotected",
+            TaskFault::Random => "Random",
+            TaskFault::Record(ts_record::RecordFault::Damaged(offset)) => return write!(
                 f,
                 "Damaged({offset})"
             ),
-            Fault::Record(fault) => record_name(*fault),
-            Fault::Read => "Read",
-            Fault::Write => "Write",
-            Fault::ReadLimit => "ReadLimit",
-            Fault::Cut => "Cut",
-            Fault::Node(fault) => node_name(*fault),
-            Fault::Frame(fault) => frame_name(*fault),
+            TaskFault::Record(fault) => record_name(*fault),
+            TaskFault::Read => "Read",
+            TaskFault::Write => "Write",
+            TaskFault::ReadLimit => "ReadLimit",
+            TaskFault::Cut => "Cut",
+            TaskFault::Node(fault) => fault_name(*fault),
+            TaskFault::Frame(fault) => frame_name(*fault),
         };
         write!(f, "{name}")
     }
 }
 
 /// The name of a record's fault.
-fn record_name(fault: ts_record::Fault) -> &'static str {
+fn record_name(fault: ts_record::RecordFault) -> &'static str {
     match fault {
-        ts_record::Fault::Memory => "Memory",
-        ts_record::Fault::DiskFailed => "DiskFailed",
-        ts_record::Fault::Broken => "Broken",
-        ts_record::Fault::GenerationsExhausted => "GenerationsExhausted",
-        ts_record::Fault::NotFormatted => "NotFormatted",
-        ts_record::Fault::OldVersion => "OldVersion",
-        ts_record::Fault::Damaged(_) => "Damaged",
+        ts_record::RecordFault::Memory => "Memory",
+        ts_record::RecordFault::DiskFailed => "DiskFailed",
+        ts_record::RecordFault::Broken => "Broken",
+        ts_record::RecordFault::GenerationsExhausted => "GenerationsExhausted",
+        ts_record::RecordFault::NotFormatted => "NotFormatted",
+        ts_record::RecordFault::OldVersion => "OldVersion",
+        ts_record::RecordFault::Damaged(_) => "Damaged",
     }
-}
-
-/// The name of a fault that a node answered in a frame.
-fn node_name(fault: NodeFault) -> &'static str {
-    fault_name(match fault {
-        NodeFault::Memory => NodeCallFault::Memory,
-        NodeFault::DiskFailed => NodeCallFault::DiskFailed,
-        NodeFault::Broken => NodeCallFault::Broken,
-        NodeFault::RoundsExhausted => NodeCallFault::RoundsExhausted,
-        NodeFault::PositionsExhausted => NodeCallFault::PositionsExhausted,
-        NodeFault::GenerationsExhausted => NodeCallFault::GenerationsExhausted,
-    })
 }
 
 /// The name of what is wrong in a frame's place.
@@ -127,59 +115,59 @@ fn frame_name(fault: FrameFault) -> &'static str {
     }
 }
 
-impl From<AllocError> for Fault {
+impl From<AllocError> for TaskFault {
     ghost from_gives = { λ _ e. e ≡ fault.Memory };
 
-    fn from(_e: AllocError) -> Fault {
-        Fault::Memory
+    fn from(_e: AllocError) -> TaskFault {
+        TaskFault::Memory
     }
 }
 
-impl<T: Drop> From<AllocFailed<T>> for Fault {
+impl<T: Drop> From<AllocFailed<T>> for TaskFault {
     ghost from_gives = { λ _ e. e ≡ fault.Memory };
 
-    fn from(_e: AllocFailed<T>) -> Fault {
-        Fault::Memory
+    fn from(_e: AllocFailed<T>) -> TaskFault {
+        TaskFault::Memory
     }
 }
 
-impl From<ts_record::Fault> for Fault {
-    fn from(fault: ts_record::Fault) -> Fault {
+impl From<ts_record::RecordFault> for TaskFault {
+    fn from(fault: ts_record::RecordFault) -> TaskFault {
         match fault {
-            ts_record::Fault::Memory => Fault::Memory,
-            other => Fault::Record(other),
+            ts_record::RecordFault::Memory => TaskFault::Memory,
+            other => TaskFault::Record(other),
         }
     }
 }
 
-impl From<TableFault> for Fault {
-    fn from(fault: TableFault) -> Fault {
+impl From<TableFault> for TaskFault {
+    fn from(fault: TableFault) -> TaskFault {
         match fault {
-            TableFault::TableLine(number) => Fault::TableLine(number),
-            TableFault::Memory => Fault::Memory,
+            TableFault::TableLine(number) => TaskFault::TableLine(number),
+            TableFault::Memory => TaskFault::Memory,
         }
     }
 }
 
-impl From<MakeFault> for Fault {
-    fn from(fault: MakeFault) -> Fault {
+impl From<MakeFault> for TaskFault {
+    fn from(fault: MakeFault) -> TaskFault {
         match fault {
-            MakeFault::Memory => Fault::Memory,
-            MakeFault::TooLong => Fault::TooLong,
-            MakeFault::OutOfLimits => Fault::OutOfLimits,
+            MakeFault::Memory => TaskFault::Memory,
+            MakeFault::TooLong => TaskFault::TooLong,
+            MakeFault::OutOfLimits => TaskFault::OutOfLimits,
         }
     }
 }
 
-impl From<ServeFault> for Fault {
-    fn from(fault: ServeFault) -> Fault {
+impl From<ServeFault> for TaskFault {
+    fn from(fault: ServeFault) -> TaskFault {
         match fault {
-            ServeFault::Read => Fault::Read,
-            ServeFault::Write => Fault::Write,
-            ServeFault::ReadLimit => Fault::ReadLimit,
-            ServeFault::Cut => Fault::Cut,
-            ServeFault::Frame(fault) => Fault::Frame(fault),
-            ServeFault::Memory => Fault::Memory,
+            ServeFault::Read => TaskFault::Read,
+            ServeFault::Write => TaskFault::Write,
+            ServeFault::ReadLimit => TaskFault::ReadLimit,
+            ServeFault::Cut => TaskFault::Cut,
+            ServeFault::Frame(fault) => TaskFault::Frame(fault),
+            ServeFault::Memory => TaskFault::Memory,
         }
     }
 }

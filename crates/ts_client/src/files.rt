@@ -2,7 +2,7 @@
 
 ghost use Rattle.std.specs.Prelude.{◌≤◌, IfOk, IfSome, length};
 
-use crate::fault::Fault;
+use crate::fault::TaskFault;
 use std::alloc::Global;
 use std::io::{Error, ErrorKind, Read};
 use std::rt::Files;
@@ -19,12 +19,12 @@ pub const MAX_TABLE: u64 = 268_435_456;
 pub const MAX_SHOWN: u64 = 4_294_967_296;
 
 /// Says on standard error what the system says of a file, and gives the fault.
-pub fn fault_of(rt: &impl Eprint, path: &str, error: &Error) -> Fault {
+pub fn fault_of(rt: &impl Eprint, path: &str, error: &Error) -> TaskFault {
     if error.kind() == ErrorKind::OutOfMemory {
-        return Fault::Memory;
+        return TaskFault::Memory;
     }
     let _ = eprintln!(rt; "trustd: {path}: {error}");
-    Fault::File
+    TaskFault::File
 }
 
 /// All octets of a file, without a word on standard error. `None` where there are more than `most`.
@@ -55,14 +55,14 @@ pub fn read_within<R: Files + Eprint>(
     alloc: Global,
     path: &str,
     most: u64,
-) -> Result<Vec<u8>, Fault>
+) -> Result<Vec<u8>, TaskFault>
     ensures short { IfOk result (λ octets. length octets.items ≤ most) }
 {
     match read_at_most(rt, alloc, path, most) {
         Ok(Some(octets)) => Ok(octets),
         Ok(None) => {
             let _ = eprintln!(rt; "trustd: {path}: holds more than {most} octets");
-            Err(Fault::TooLong)
+            Err(TaskFault::TooLong)
         }
         Err(error) => Err(fault_of(rt, path, &error)),
     }
@@ -73,13 +73,13 @@ pub fn read_within<R: Files + Eprint>(
 /// # Errors
 ///
 /// `TooLong` for more; `File`, `Memory`.
-pub fn read_file<R: Files + Eprint>(rt: &R, alloc: Global, path: &str) -> Result<Vec<u8>, Fault>
+pub fn read_file<R: Files + Eprint>(rt: &R, alloc: Global, path: &str) -> Result<Vec<u8>, TaskFault>
     ensures short { IfOk result (λ octets. length octets.items ≤ 8388608) }
 {
     read_within(rt, alloc, path, MAX_LENGTH)
 }
 
 /// The name of a record's second file.
-pub fn second(alloc: Global, path: &str) -> Result<String, Fault> {
+pub fn second(alloc: Global, path: &str) -> Result<String, TaskFault> {
     Ok(format!(in alloc; "{path}.b")?)
 }

@@ -1,13 +1,13 @@
 //! Folders, which stand for the files in them.
 
-use crate::fault::Fault;
+use crate::fault::TaskFault;
 use crate::files::fault_of;
 use std::alloc::Global;
 use std::fs;
 use std::rt::Files;
 
 /// Whether a path names a folder, itself or by a link.
-fn is_folder<R: Files + Eprint>(rt: &R, path: &str) -> Result<bool, Fault> {
+fn is_folder<R: Files + Eprint>(rt: &R, path: &str) -> Result<bool, TaskFault> {
     match fs::metadata(rt, path) {
         Ok(found) => Ok(found.is_dir()),
         Err(error) => Err(fault_of(rt, path, &error)),
@@ -19,7 +19,7 @@ fn is_folder<R: Files + Eprint>(rt: &R, path: &str) -> Result<bool, Fault> {
 fn files_in<R: AllocGlobal + Files + Eprint + Clone + Drop>(
     rt: &R,
     folder: &str,
-) -> Result<Vec<String>, Fault> {
+) -> Result<Vec<String>, TaskFault> {
     let alloc = rt.alloc();
     let entries = match fs::read_dir(rt, folder) {
         Ok(entries) => entries,
@@ -48,7 +48,7 @@ fn files_in<R: AllocGlobal + Files + Eprint + Clone + Drop>(
 pub(crate) fn files_of<R: AllocGlobal + Files + Eprint + Clone + Drop>(
     rt: &R,
     paths: &[String],
-) -> Result<Vec<String>, Fault> {
+) -> Result<Vec<String>, TaskFault> {
     let alloc = rt.alloc();
     let mut all = Vec::new(alloc);
     for path in paths {
@@ -60,7 +60,7 @@ pub(crate) fn files_of<R: AllocGlobal + Files + Eprint + Clone + Drop>(
         let files = files_in(rt, path)?;
         if files.is_empty() {
             let _ = eprintln!(rt; "trustd: {path}: is a folder without files");
-            return Err(Fault::Field);
+            return Err(TaskFault::Field);
         }
         for file in files {
             all.push(file)?;

@@ -29,7 +29,7 @@ pub struct KeyedPeer<'a, N: Net + RandomSource> {
 
 /// A node as a client reaches it.
 #[derive(Drop)]
-pub enum Reached<'a, N: Net + RandomSource> {
+pub enum ReachedNode<'a, N: Net + RandomSource> {
     /// Without a key.
     Open(TcpPeer<'a, N>),
     /// With a key.
@@ -156,12 +156,12 @@ impl<N: Net + RandomSource> Peer for KeyedPeer<'_, N> {
     }
 }
 
-impl<'a, N: Net + RandomSource> Reached<'a, N> {
+impl<'a, N: Net + RandomSource> ReachedNode<'a, N> {
     /// The node at this address, which is shown this key. No connection is made yet.
-    pub fn new(alloc: Global, net: &'a N, address: String, key: Option<Key>) -> Reached<'a, N> {
+    pub fn new(alloc: Global, net: &'a N, address: String, key: Option<Key>) -> ReachedNode<'a, N> {
         match key {
-            None => Reached::Open(TcpPeer::new(alloc, net, address)),
-            Some(key) => Reached::Keyed(KeyedPeer {
+            None => ReachedNode::Open(TcpPeer::new(alloc, net, address)),
+            Some(key) => ReachedNode::Keyed(KeyedPeer {
                 alloc,
                 net,
                 address,
@@ -171,13 +171,13 @@ impl<'a, N: Net + RandomSource> Reached<'a, N> {
     }
 }
 
-impl<N: Net + RandomSource> Peer for Reached<'_, N> {
+impl<N: Net + RandomSource> Peer for ReachedNode<'_, N> {
     ghost is_ready = { λ _. Unit {0} };
 
     fn exchange(&mut self, octets: &[u8]) -> Result<Vec<u8>, ServeFault> {
         match self {
-            Reached::Open(peer) => peer.exchange(octets),
-            Reached::Keyed(peer) => peer.exchange(octets),
+            ReachedNode::Open(peer) => peer.exchange(octets),
+            ReachedNode::Keyed(peer) => peer.exchange(octets),
         }
     }
 }

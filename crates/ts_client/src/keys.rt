@@ -1,6 +1,6 @@
 //! Files of keys.
 
-use crate::fault::Fault;
+use crate::fault::TaskFault;
 use crate::files::fault_of;
 use std::alloc::Global;
 use std::fs;
@@ -12,26 +12,26 @@ use ts_access::{Key, KeysFault, Role, key_line};
 use ts_keyring::{KeyFileFault, Keyring, read_key_file};
 
 /// What is wrong with the lines of a file of keys, said on standard error.
-fn fault_of_keys(rt: &impl Eprint, path: &str, fault: KeysFault) -> Fault {
+fn fault_of_keys(rt: &impl Eprint, path: &str, fault: KeysFault) -> TaskFault {
     match fault {
-        KeysFault::Memory => Fault::Memory,
+        KeysFault::Memory => TaskFault::Memory,
         KeysFault::Line(line) => {
             let _ = eprintln!(rt; "trustd: {path}: line {line} is no key: ID ROLE SECRET");
-            Fault::KeyLine(line)
+            TaskFault::KeyLine(line)
         }
         KeysFault::Twice(id) => {
             let _ = eprintln!(rt; "trustd: {path}: two keys have the number {id}");
-            Fault::Field
+            TaskFault::Field
         }
         KeysFault::TooMany => {
             let _ = eprintln!(rt; "trustd: {path}: holds more than 4096 keys");
-            Fault::TooLong
+            TaskFault::TooLong
         }
     }
 }
 
 /// What is wrong with a file of keys, said on standard error.
-fn fault_of_file(rt: &impl Eprint, path: &str, fault: KeyFileFault) -> Fault {
+fn fault_of_file(rt: &impl Eprint, path: &str, fault: KeyFileFault) -> TaskFault {
     match fault {
         KeyFileFault::File(error) => fault_of(rt, path, &error),
         KeyFileFault::Keys(fault) => fault_of_keys(rt, path, fault),
@@ -58,7 +58,7 @@ pub fn keyring_of<R: Files + Eprint>(
     rt: &R,
     alloc: Global,
     path: &Option<String>,
-) -> Result<Option<Keyring>, Fault> {
+) -> Result<Option<Keyring>, TaskFault> {
     let Some(path) = path else {
         return Ok(None);
     };
@@ -78,7 +78,7 @@ pub fn key_in<R: Files + Eprint>(
     rt: &R,
     alloc: Global,
     path: &Option<String>,
-) -> Result<Option<Key>, Fault> {
+) -> Result<Option<Key>, TaskFault> {
     let Some(path) = path else {
         return Ok(None);
     };
@@ -92,17 +92,17 @@ pub fn key_in<R: Files + Eprint>(
         others => {
             let (path, count) = (path.as_str(), others.len());
             let _ = eprintln!(rt; "trustd: {path}: holds {count} keys, one is wanted");
-            Err(Fault::Field)
+            Err(TaskFault::Field)
         }
     }
 }
 
 /// Octets that nobody else draws.
-pub(crate) fn draw(rt: &impl RandomSource) -> Result<[u8; 32], Fault> {
+pub(crate) fn draw(rt: &impl RandomSource) -> Result<[u8; 32], TaskFault> {
     let mut octets = [0; 32];
     match rt.fill_bytes(&mut octets) {
         Ok(()) => Ok(octets),
-        Err(_) => Err(Fault::Random),
+        Err(_) => Err(TaskFault::Random),
     }
 }
 
@@ -114,7 +114,7 @@ pub(crate) fn draw(rt: &impl RandomSource) -> Result<[u8; 32], Fault> {
 pub(crate) fn print_key(
     rt: &(impl AllocGlobal + RandomSource + Print),
     role: Role,
-) -> Result<(), Fault> {
+) -> Result<(), TaskFault> {
     let [a, b, c, d, ..] = draw(rt)?;
     let key = Key {
         id: u32::from_be_bytes([a, b, c, d]),
@@ -124,6 +124,6 @@ pub(crate) fn print_key(
     let line = key_line(rt.alloc(), &key)?;
     match println!(rt; "{line}") {
         Ok(()) => Ok(()),
-        Err(_) => Err(Fault::Write),
+        Err(_) => Err(TaskFault::Write),
     }
 }

@@ -2,7 +2,8 @@
 //! brought to servers; what these programs read is made; and chains are judged without a node.
 //!
 //! ```text
-//! run(&rt, &task)?;                                               // `Fault` says why a task fails
+//! run(&rt, &task)?;                                               // `TaskFault` says why a task
+//! fails
 //! ```
 //!
 //! - [`run`]: it is safe and ends, and each call that it makes is made where its contract allows
@@ -48,12 +49,12 @@ mod verifying;
 mod vouching;
 mod waiting;
 
-pub use ended::{Ended, ending_by, ending_of};
-pub use fault::Fault;
+pub use ended::{Ending, ending_by, ending_of};
+pub use fault::TaskFault;
 pub use files::{MAX_TABLE, fault_of, read_file, read_within, second};
 pub use keys::{key_in, keyring_of};
 pub use kinds::other_kind;
-pub use requests::{Said, ask, submit};
+pub use requests::{Saying, ask, submit};
 pub use running::{run, well};
 pub use steps::step_line;
 pub use upkeep::{Upkeep, state_of, tend};

@@ -1,10 +1,10 @@
 //! What a node's store holds is asked for, page after page, and printed.
 
-use crate::ended::Ended;
-use crate::fault::Fault;
-use crate::keyed::Reached;
+use crate::ended::Ending;
+use crate::fault::TaskFault;
+use crate::keyed::ReachedNode;
 use crate::making::put;
-use crate::requests::{asked, say, server_at, told};
+use crate::requests::{answer_from, say, server_at, tell};
 use std::alloc::Global;
 use std::io::Print;
 use std::net::Net;
@@ -57,7 +57,7 @@ fn page_of<P: Peer>(
     kind: Rows,
     k: Option<u32>,
     from: u32,
-) -> Result<Result<Page, TooFew>, Fault>
+) -> Result<Result<Page, TooFew>, TaskFault>
     requires { P.is_ready peer.old }
     ensures { P.is_ready peer.new }
 {
@@ -67,9 +67,9 @@ fn page_of<P: Peer>(
         Rows::Log => Question::log(terms, from),
     };
     let Ok(question) = question else {
-        return Err(Fault::OutOfLimits);
+        return Err(TaskFault::OutOfLimits);
     };
-    let answer = asked(alloc, peer, question)?;
+    let answer = answer_from(alloc, peer, question)?;
     let k = answer.k();
     match answer.into_reply() {
         Reply::Page { total, rows } => {
@@ -77,7 +77,7 @@ fn page_of<P: Peer>(
             Ok(Ok(Page { k, total, rows }))
         }
         Reply::NotYet { prefix } => Ok(Err(TooFew { k, prefix })),
-        _ => Err(Fault::Frame(FrameFault::Kind)),
+        _ => Err(TaskFault::Frame(FrameFault::Kind)),
     }
 }
 
@@ -89,9 +89,9 @@ fn print_row(
     json: bool,
     place: u32,
     octets: &[u8],
-) -> Result<(), Fault> {
+) -> Result<(), TaskFault> {
     let Some(row) = row_fields(alloc, octets)? else {
-        return Err(Fault::Field);
+        return Err(TaskFault::Field);
     };
     if json {
         let text = row_text(alloc, place, row)?;
@@ -112,7 +112,7 @@ fn print_page(
     json: bool,
     from: u32,
     page: &Page,
-) -> Result<(), Fault> {
+) -> Result<(), TaskFault> {
     let mut place = from;
     for row in &page.rows {
         place = place.saturating_add(1);
@@ -122,14 +122,14 @@ fn print_page(
 }
 
 /// Says that a node knows too few commands.
-pub(crate) fn say_too_few(rt: &impl Eprint, few: TooFew) -> Ended {
+pub(crate) fn say_too_few(rt: &impl Eprint, few: TooFew) -> Ending {
     let TooFew { k, prefix } = few;
     let _said = eprintln!(rt; "trustd: the node knows {prefix} commands, and not {k}");
-    Ended::Refused
+    Ending::Refused
 }
 
 /// Says after how many commands there are how many rows.
-fn say_head(rt: &impl Print, alloc: Global, kind: Rows, page: &Page) -> Result<(), Fault> {
+fn say_head(rt: &impl Print, alloc: Global, kind: Rows, page: &Page) -> Result<(), TaskFault> {
     let word = match kind {
         Rows::Store => "store",
         Rows::Log => "log",
@@ -151,13 +151,13 @@ pub(crate) fn print_rows(
     k: Option<u32>,
     from: u32,
     json: bool,
-) -> Result<Ended, Fault> {
+) -> Result<Ending, TaskFault> {
     let alloc = rt.alloc();
     let mut server = server_at(rt, alloc, reach)?;
     let (mut k, mut from) = (k, from);
     for number in 0..MAX_PAGES {
         let page = page_of(alloc, &mut server, kind, k, from);
-        let page = match told(rt, reach, page)? {
+        let page = match tell(rt, reach, page)? {
             Ok(page) => page,
             Err(few) => return Ok(say_too_few(rt, few)),
         };
@@ -168,19 +168,19 @@ pub(crate) fn print_rows(
         k = Some(page.k);
         from = from.saturating_add(page.rows.len().min(u32::MAX as usize) as u32);
         if page.rows.is_empty() || from >= page.total {
-            return Ok(Ended::Well);
+            return Ok(Ending::Well);
         }
     }
-    Ok(Ended::Well)
+    Ok(Ending::Well)
 }
 
 /// All rows of what a server's store holds after the first k commands, or after all that the server
 /// knows.
 pub(crate) fn all_rows<R: Net + RandomSource>(
     alloc: Global,
-    server: &mut Reached<'_, R>,
+    server: &mut ReachedNode<'_, R>,
     k: Option<u32>,
-) -> Result<Result<Vec<Vec<u8>>, TooFew>, Fault> {
+) -> Result<Result<Vec<Vec<u8>>, TooFew>, TaskFault> {
     let mut all = Vec::new(alloc);
     let (mut k, mut from) = (k, 0u32);
     for _ in 0..MAX_STORE_PAGES {
@@ -207,7 +207,12 @@ pub(crate) fn all_rows<R: Net + RandomSource>(
 }
 
 /// Prints rows, each after a sign.
-fn print_signed(rt: &impl Print, alloc: Global, sign: &[u8], rows: &[&[u8]]) -> Result<(), Fault> {
+fn print_signed(
+    rt: &impl Print,
+    alloc: Global,
+    sign: &[u8],
+    rows: &[&[u8]],
+) -> Result<(), TaskFault> {
     for row in rows {
         print_row(rt, alloc, sign, false, 0, *row)?;
     }
@@ -225,20 +230,20 @@ pub(crate) fn print_diff(
     reach: &Reach,
     old: u32,
     new: u32,
-) -> Result<Ended, Fault> {
+) -> Result<Ending, TaskFault> {
     let alloc = rt.alloc();
     let mut server = server_at(rt, alloc, reach)?;
     let before = all_rows(alloc, &mut server, Some(old));
-    let before = match told(rt, reach, before)? {
+    let before = match tell(rt, reach, before)? {
         Ok(rows) => rows,
         Err(few) => return Ok(say_too_few(rt, few)),
     };
     let behind = all_rows(alloc, &mut server, Some(new));
-    let behind = match told(rt, reach, behind)? {
+    let behind = match tell(rt, reach, behind)? {
         Ok(rows) => rows,
         Err(few) => return Ok(say_too_few(rt, few)),
     };
     print_signed(rt, alloc, b"- ", &missing(alloc, &behind, &before)?)?;
     print_signed(rt, alloc, b"+ ", &missing(alloc, &before, &behind)?)?;
-    Ok(Ended::Well)
+    Ok(Ending::Well)
 }

@@ -1,7 +1,7 @@
 //! Files for the programs of a client: encoded commands and questions; the ids of anchors and
 //! CRLs; what files hold.
 
-use crate::fault::Fault;
+use crate::fault::TaskFault;
 use crate::files::{MAX_SHOWN, read_at_most, read_within, second};
 use crate::material::{certificate_of, certificates_of, crl_of, crls_of, values_of};
 use crate::vouching::vouch_for;
@@ -9,7 +9,9 @@ use std::alloc::Global;
 use std::io::{ErrorKind, Print, Read, Write};
 use std::rt::{Clock, Files};
 use std::{fs, io};
-use ts_cli::{Change, CommandWords, QuestionWords, command_octets, id_text, question_octets};
+use ts_cli::{
+    CommandAction, CommandWords, QuestionWords, command_octets, id_text, question_octets,
+};
 use ts_pem::{PemFault, is_pem, read_certificates, read_crls};
 use ts_show::show;
 
@@ -17,14 +19,14 @@ use ts_show::show;
 const RANDOM: &str = "/dev/urandom";
 
 /// Sixteen octets that nobody else draws.
-pub(crate) fn draw_id<R: Files>(rt: &R) -> Result<[u8; 16], Fault> {
+pub(crate) fn draw_id<R: Files>(rt: &R) -> Result<[u8; 16], TaskFault> {
     let mut id = [0; 16];
     let Ok(mut file) = fs::open(rt, RANDOM) else {
-        return Err(Fault::File);
+        return Err(TaskFault::File);
     };
     match file.read_exact(&mut id) {
         Ok(()) => Ok(id),
-        Err(_) => Err(Fault::File),
+        Err(_) => Err(TaskFault::File),
     }
 }
 
@@ -33,7 +35,7 @@ pub(crate) fn draw_id<R: Files>(rt: &R) -> Result<[u8; 16], Fault> {
 fn id_of(
     rt: &(impl AllocGlobal + Files + Eprint),
     words: &CommandWords,
-) -> Result<[u8; 16], Fault> {
+) -> Result<[u8; 16], TaskFault> {
     if let Some(id) = words.id {
         return Ok(id);
     }
@@ -41,15 +43,15 @@ fn id_of(
     let text = hex::encode(rt.alloc(), id)?;
     match eprintln!(rt; "{text}") {
         Ok(()) => Ok(id),
-        Err(_) => Err(Fault::Write),
+        Err(_) => Err(TaskFault::Write),
     }
 }
 
 /// Writes octets to standard output.
-pub(crate) fn put(rt: &impl Print, octets: &[u8]) -> Result<(), Fault> {
+pub(crate) fn put(rt: &impl Print, octets: &[u8]) -> Result<(), TaskFault> {
     match io::writer(rt).write_all(octets) {
         Ok(()) => Ok(()),
-        Err(_) => Err(Fault::Write),
+        Err(_) => Err(TaskFault::Write),
     }
 }
 
@@ -62,11 +64,11 @@ pub(crate) fn put(rt: &impl Print, octets: &[u8]) -> Result<(), Fault> {
 pub fn make_command(
     rt: &(impl AllocGlobal + Files + Clock + Print + Eprint),
     words: &CommandWords,
-) -> Result<(), Fault> {
+) -> Result<(), TaskFault> {
     let alloc = rt.alloc();
     let contents = match &words.change {
-        Change::Add { file } => certificate_of(rt, alloc, file.as_str(), words.force)?,
-        Change::Load {
+        CommandAction::Add { file } => certificate_of(rt, alloc, file.as_str(), words.force)?,
+        CommandAction::Load {
             file,
             issuers,
             unchecked,
@@ -89,7 +91,7 @@ fn read_chain<R: Files + Eprint>(
     rt: &R,
     alloc: Global,
     files: &[String],
-) -> Result<Vec<Vec<u8>>, Fault> {
+) -> Result<Vec<Vec<u8>>, TaskFault> {
     let mut found = Vec::new(alloc);
     for file in files {
         for certificate in certificates_of(rt, alloc, file.as_str())? {
@@ -107,7 +109,7 @@ fn read_chain<R: Files + Eprint>(
 pub fn make_question(
     rt: &(impl AllocGlobal + Files + Print + Eprint),
     words: &QuestionWords,
-) -> Result<(), Fault> {
+) -> Result<(), TaskFault> {
     let alloc = rt.alloc();
     let certificates = read_chain(rt, alloc, &words.files)?;
     let octets = question_octets(alloc, words, &certificates)?;
@@ -120,7 +122,10 @@ pub fn make_question(
 /// # Errors
 ///
 /// Those of the file; `Field` where a block is broken; `Write`.
-pub fn print_id(rt: &(impl AllocGlobal + Files + Print + Eprint), file: &str) -> Result<(), Fault> {
+pub fn print_id(
+    rt: &(impl AllocGlobal + Files + Print + Eprint),
+    file: &str,
+) -> Result<(), TaskFault> {
     let alloc = rt.alloc();
     let mut values = certificates_of(rt, alloc, file)?;
     if values.is_empty() {
@@ -129,7 +134,7 @@ pub fn print_id(rt: &(impl AllocGlobal + Files + Print + Eprint), file: &str) ->
     for octets in &values {
         let text = id_text(alloc, octets)?;
         if println!(rt; "{text}").is_err() {
-            return Err(Fault::Write);
+            return Err(TaskFault::Write);
         }
     }
     Ok(())
@@ -151,7 +156,7 @@ fn show_blocks(
     rt: &(impl AllocGlobal + Print + Eprint),
     file: &str,
     octets: &[u8],
-) -> Result<(), Fault> {
+) -> Result<(), TaskFault> {
     let alloc = rt.alloc();
     for block in &values_of(rt, file, blocks_of(alloc, octets))? {
         let text = show(alloc, block, &[])?;
@@ -169,7 +174,7 @@ fn show_blocks(
 pub fn show_file(
     rt: &(impl AllocGlobal + Files + Print + Eprint),
     file: &str,
-) -> Result<(), Fault> {
+) -> Result<(), TaskFault> {
     let alloc = rt.alloc();
     let octets = read_within(rt, alloc, file, MAX_SHOWN)?;
     if is_pem(&octets) {
@@ -177,8 +182,8 @@ pub fn show_file(
     }
     let other = match read_at_most(rt, alloc, second(alloc, file)?.as_str(), MAX_SHOWN) {
         Ok(Some(other)) => other,
-        Ok(None) => return Err(Fault::TooLong),
-        Err(error) if error.kind() == ErrorKind::OutOfMemory => return Err(Fault::Memory),
+        Ok(None) => return Err(TaskFault::TooLong),
+        Err(error) if error.kind() == ErrorKind::OutOfMemory => return Err(TaskFault::Memory),
         Err(_) => Vec::new(alloc),
     };
     let text = show(alloc, &octets, &other)?;

@@ -1,6 +1,6 @@
 //! Certificates and CRLs in files, in PEM or DER.
 
-use crate::fault::Fault;
+use crate::fault::TaskFault;
 use crate::files::read_file;
 use crate::kinds::say_other;
 use std::alloc::Global;
@@ -16,13 +16,13 @@ pub(crate) fn values_of(
     rt: &impl Eprint,
     path: &str,
     read: Result<Vec<Vec<u8>>, PemFault>,
-) -> Result<Vec<Vec<u8>>, Fault> {
+) -> Result<Vec<Vec<u8>>, TaskFault> {
     match read {
         Ok(values) => Ok(values),
-        Err(PemFault::OutOfMemory) => Err(Fault::Memory),
+        Err(PemFault::OutOfMemory) => Err(TaskFault::Memory),
         Err(fault) => {
             let _ = eprintln!(rt; "trustd: {path}: {fault}");
-            Err(Fault::Field)
+            Err(TaskFault::Field)
         }
     }
 }
@@ -37,7 +37,7 @@ pub fn certificates_of<R: Files + Eprint>(
     rt: &R,
     alloc: Global,
     path: &str,
-) -> Result<Vec<Vec<u8>>, Fault> {
+) -> Result<Vec<Vec<u8>>, TaskFault> {
     let octets = read_file(rt, alloc, path)?;
     values_of(rt, path, read_certificates(alloc, &octets))
 }
@@ -51,12 +51,13 @@ pub fn crls_of<R: Files + Eprint>(
     rt: &R,
     alloc: Global,
     path: &str,
-) -> Result<Vec<Vec<u8>>, Fault> {
+) -> Result<Vec<Vec<u8>>, TaskFault> {
     let octets = read_file(rt, alloc, path)?;
     values_of(rt, path, read_crls(alloc, &octets))
 }
 
-/// The certificates, or the CRLs, of a file. Of one that has none standard error says what it holds.
+/// The certificates, or the CRLs, of a file. Of one that has none standard error says what it
+/// holds.
 ///
 /// # Errors
 ///
@@ -66,7 +67,7 @@ pub(crate) fn values_in<R: Files + Eprint>(
     alloc: Global,
     path: &str,
     wanted: Kind,
-) -> Result<Vec<Vec<u8>>, Fault> {
+) -> Result<Vec<Vec<u8>>, TaskFault> {
     let octets = read_file(rt, alloc, path)?;
     let read = match wanted {
         Kind::List => read_crls(alloc, &octets),
@@ -76,7 +77,7 @@ pub(crate) fn values_in<R: Files + Eprint>(
     if values.is_empty() || !is_pem(&octets) {
         let is_other = say_other(rt, alloc, path, wanted, &octets)?;
         if is_other || values.is_empty() {
-            return Err(Fault::Field);
+            return Err(TaskFault::Field);
         }
     }
     Ok(values)
@@ -93,7 +94,7 @@ pub(crate) fn octets_of<R: Files + Eprint>(
     alloc: Global,
     files: &[String],
     wanted: Kind,
-) -> Result<Vec<Vec<u8>>, Fault> {
+) -> Result<Vec<Vec<u8>>, TaskFault> {
     let mut found = Vec::new(alloc);
     for file in files {
         for value in values_in(rt, alloc, file.as_str(), wanted)? {
@@ -104,22 +105,22 @@ pub(crate) fn octets_of<R: Files + Eprint>(
 }
 
 /// The one value of a file that is to have one.
-fn single(rt: &impl Eprint, path: &str, mut values: Vec<Vec<u8>>) -> Result<Vec<u8>, Fault> {
+fn single(rt: &impl Eprint, path: &str, mut values: Vec<Vec<u8>>) -> Result<Vec<u8>, TaskFault> {
     let count = values.len();
     match values.pop() {
         Some(value) if count == 1 => Ok(value),
         _ => {
             let _ = eprintln!(rt; "trustd: {path}: holds {count} of its kind, where one is wanted");
-            Err(Fault::Field)
+            Err(TaskFault::Field)
         }
     }
 }
 
 /// Says why a file's octets are refused, with the rule and its offset.
-fn refuse(rt: &impl Eprint, path: &str, what: &str, fault: CertFault) -> Fault {
+fn refuse(rt: &impl Eprint, path: &str, what: &str, fault: CertFault) -> TaskFault {
     let (rule, at) = (fault.kind, fault.at);
     let _ = eprintln!(rt; "trustd: {path}: no {what}: {rule} at {at} (--force writes it anyway)");
-    Fault::Field
+    TaskFault::Field
 }
 
 /// The one certificate of a file. Unless it is forced, it is one by each rule.
@@ -133,7 +134,7 @@ pub fn certificate_of<R: Files + Eprint>(
     alloc: Global,
     path: &str,
     force: bool,
-) -> Result<Vec<u8>, Fault> {
+) -> Result<Vec<u8>, TaskFault> {
     let octets = single(rt, path, certificates_of(rt, alloc, path)?)?;
     if force {
         return Ok(octets);
@@ -180,10 +181,10 @@ pub fn crl_of<R: Files + Eprint>(
     alloc: Global,
     path: &str,
     force: bool,
-) -> Result<Vec<u8>, Fault> {
+) -> Result<Vec<u8>, TaskFault> {
     let octets = single(rt, path, crls_of(rt, alloc, path)?)?;
     if force || is_crl(rt, path, &octets) {
         return Ok(octets);
     }
-    Err(Fault::Field)
+    Err(TaskFault::Field)
 }

@@ -1,6 +1,6 @@
 //! Time passes.
 
-use crate::fault::Fault;
+use crate::fault::TaskFault;
 use mio::{Events, Poll};
 use std::alloc::Global;
 use std::net::Net;
@@ -11,13 +11,13 @@ use std::time::Duration;
 /// # Errors
 ///
 /// `Clock` where the system can't wait; `Memory`.
-pub(crate) fn pause<R: Net>(rt: &R, alloc: Global, millis: u64) -> Result<(), Fault> {
+pub(crate) fn pause<R: Net>(rt: &R, alloc: Global, millis: u64) -> Result<(), TaskFault> {
     let Ok(mut poll) = Poll::new(rt) else {
-        return Err(Fault::Clock);
+        return Err(TaskFault::Clock);
     };
     let mut events = Events::with_capacity(alloc, 1)?;
     match poll.poll(&mut events, Some(Duration::from_millis(millis))) {
         Ok(()) => Ok(()),
-        Err(_) => Err(Fault::Clock),
+        Err(_) => Err(TaskFault::Clock),
     }
 }

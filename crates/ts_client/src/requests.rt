@@ -2,10 +2,10 @@
 
 ghost use Rattle.std.specs.Prelude.{All};
 
-use crate::ended::{Ended, ending_by, ending_of};
-use crate::fault::Fault;
+use crate::ended::{Ending, ending_by, ending_of};
+use crate::fault::TaskFault;
 use crate::files::read_file;
-use crate::keyed::Reached;
+use crate::keyed::ReachedNode;
 use crate::keys::key_in;
 use crate::making::put;
 use crate::waiting::submit_and_wait;
@@ -16,7 +16,7 @@ use std::random::RandomSource;
 use std::rt::{Clock, Files};
 use std::time::Duration;
 use ts_cli::Reach;
-use ts_explain::explained;
+use ts_explain::explanation;
 use ts_lab::text::{outcome_text, reply_text};
 use ts_question::{Answer, Question};
 use ts_serve::{Peer, TcpPeer, carry};
@@ -24,33 +24,40 @@ use ts_store::Command;
 use ts_wire::{Feed, FeedError, Frame, FrameFault, WriteError, write_frame};
 
 /// The one frame that a peer answers a request with.
-fn frame_of(alloc: Global, octets: &[u8]) -> Result<Frame, Fault> {
+fn frame_of(alloc: Global, octets: &[u8]) -> Result<Frame, TaskFault> {
     let mut feed = Feed::new(alloc);
     feed.push(octets)?;
     let frame = match feed.take() {
         Ok(Some(frame)) => frame,
-        Ok(None) => return Err(Fault::Cut),
-        Err(FeedError::Frame(fault)) => return Err(Fault::Frame(fault)),
-        Err(FeedError::Memory) => return Err(Fault::Memory),
+        Ok(None) => return Err(TaskFault::Cut),
+        Err(FeedError::Frame(fault)) => return Err(TaskFault::Frame(fault)),
+        Err(FeedError::Memory) => return Err(TaskFault::Memory),
     };
-    match frame {
-        Frame::NodeFault { fault } => Err(Fault::Node(fault)),
-        Frame::FrameFault { fault } => Err(Fault::Frame(fault)),
-        _ if !feed.is_empty() => Err(Fault::Frame(FrameFault::Trailing)),
-        frame => Ok(frame),
+    let fault = match &frame {
+        Frame::NodeFault { fault } => Some(TaskFault::Node(*fault)),
+        Frame::FrameFault { fault } => Some(TaskFault::Frame(*fault)),
+        _ if !feed.is_empty() => Some(TaskFault::Frame(FrameFault::Trailing)),
+        _ => None,
+    };
+    match fault {
+        Some(fault) => {
+            drop(frame);
+            Err(fault)
+        }
+        None => Ok(frame),
     }
 }
 
 /// Sends a request to a peer, and returns the frame that it is answered with.
-pub fn answer_of<P: Peer>(alloc: Global, peer: &mut P, request: &Frame) -> Result<Frame, Fault>
+pub fn answer_of<P: Peer>(alloc: Global, peer: &mut P, request: &Frame) -> Result<Frame, TaskFault>
     requires { P.is_ready peer.old }
     ensures { P.is_ready peer.new }
 {
     let mut octets = Vec::new(alloc);
     match write_frame(alloc, &mut octets, request) {
         Ok(()) => {}
-        Err(WriteError::Memory) => return Err(Fault::Memory),
-        Err(WriteError::Length) => return Err(Fault::Frame(FrameFault::Length)),
+        Err(WriteError::Memory) => return Err(TaskFault::Memory),
+        Err(WriteError::Length) => return Err(TaskFault::Frame(FrameFault::Length)),
     }
     let answer = peer.exchange(&octets)?;
     frame_of(alloc, &answer)
@@ -61,41 +68,43 @@ pub(crate) fn answer_to<P: Peer>(
     alloc: Global,
     peer: &mut P,
     request: Frame,
-) -> Result<Frame, Fault>
+) -> Result<Frame, TaskFault>
     requires { P.is_ready peer.old }
     ensures { P.is_ready peer.new }
 {
-    answer_of(alloc, peer, &request)
+    let answer = answer_of(alloc, peer, &request);
+    drop(request);
+    answer
 }
 
 /// What a node answered, as a client says it.
 #[derive(Debug, Drop)]
-pub struct Said {
+pub struct Saying {
     /// The line that is printed.
     pub line: String,
     /// How the task ends.
-    pub ended: Ended,
+    pub ended: Ending,
 }
 
 /// The line that reports the answer to a command, and how the task ends.
-fn submit_said(alloc: Global, answer: &Frame) -> Result<Said, Fault> {
+fn submit_said(alloc: Global, answer: &Frame) -> Result<Saying, TaskFault> {
     match answer {
         Frame::Started { position, ballot } => {
             let (position, ballot) = (*position, *ballot);
-            Ok(Said {
+            Ok(Saying {
                 line: format!(in alloc; "submit started {position} {ballot}\n")?,
-                ended: Ended::Well,
+                ended: Ending::Well,
             })
         }
         Frame::Settled { position, outcome } => {
             let position = *position;
             let text = outcome_text(alloc, *outcome)?;
-            Ok(Said {
+            Ok(Saying {
                 line: format!(in alloc; "submit settled {position} {text}\n")?,
                 ended: ending_of(*outcome),
             })
         }
-        _ => Err(Fault::Frame(FrameFault::Kind)),
+        _ => Err(TaskFault::Frame(FrameFault::Kind)),
     }
 }
 
@@ -104,33 +113,38 @@ fn submit_said(alloc: Global, answer: &Frame) -> Result<Said, Fault> {
 /// # Errors
 ///
 /// Those of the exchange; the node's; `Frame` where the answer is none to a command.
-pub fn submit<P: Peer>(alloc: Global, peer: &mut P, command: Command) -> Result<Said, Fault>
+pub fn submit<P: Peer>(alloc: Global, peer: &mut P, command: Command) -> Result<Saying, TaskFault>
     requires { P.is_ready peer.old }
     ensures { P.is_ready peer.new }
 {
     let answer = answer_to(alloc, peer, Frame::Submit { command })?;
-    submit_said(alloc, &answer)
+    let said = submit_said(alloc, &answer);
+    drop(answer);
+    said
 }
 
 /// The line that says what a question is answered.
-fn ask_line(alloc: Global, answer: &Answer) -> Result<String, Fault> {
+fn ask_line(alloc: Global, answer: &Answer) -> Result<String, TaskFault> {
     let k = answer.k();
     let reply = reply_text(alloc, answer.reply())?;
     Ok(format!(in alloc; "ask {k} {reply}\n")?)
 }
 
 /// Asks a peer a question, and gives the answer.
-pub(crate) fn asked<P: Peer>(
+pub(crate) fn answer_from<P: Peer>(
     alloc: Global,
     peer: &mut P,
     question: Question,
-) -> Result<Answer, Fault>
+) -> Result<Answer, TaskFault>
     requires { P.is_ready peer.old }
     ensures { P.is_ready peer.new }
 {
     match answer_to(alloc, peer, Frame::Question { question })? {
         Frame::Answer { answer } => Ok(answer),
-        _ => Err(Fault::Frame(FrameFault::Kind)),
+        other => {
+            drop(other);
+            Err(TaskFault::Frame(FrameFault::Kind))
+        }
     }
 }
 
@@ -139,43 +153,42 @@ pub(crate) fn asked<P: Peer>(
 /// # Errors
 ///
 /// Those of the exchange; the node's; `Frame` where the answer is none to a question.
-pub fn ask<P: Peer>(alloc: Global, peer: &mut P, question: Question) -> Result<String, Fault>
+pub fn ask<P: Peer>(alloc: Global, peer: &mut P, question: Question) -> Result<String, TaskFault>
     requires { P.is_ready peer.old }
     ensures { P.is_ready peer.new }
 {
-    let answer = asked(alloc, peer, question)?;
+    let answer = answer_from(alloc, peer, question)?;
     ask_line(alloc, &answer)
 }
 
 /// Prints a line.
-pub fn say(rt: &impl Print, line: &str) -> Result<(), Fault> {
+pub fn say(rt: &impl Print, line: &str) -> Result<(), TaskFault> {
     match print!(rt; "{line}") {
         Ok(()) => Ok(()),
-        Err(_) => Err(Fault::Write),
+        Err(_) => Err(TaskFault::Write),
     }
 }
 
 /// Says on standard error what kept a server from answering, where one did not. What it is given.
-pub(crate) fn told<T: Drop>(
+pub(crate) fn tell<T: Drop>(
     rt: &impl Eprint,
     reach: &Reach,
-    ended: Result<T, Fault>,
-) -> Result<T, Fault> {
+    ended: Result<T, TaskFault>,
+) -> Result<T, TaskFault> {
     let address = reach.address.as_str();
     let _said = match &ended {
-        Err(Fault::Write) if reach.key.is_none() => {
+        Err(TaskFault::Write) if reach.key.is_none() => {
             eprintln!(rt; "trustd: {address}: can't be reached, or ended the connection")
         }
-        Err(Fault::Frame(FrameFault::Version)) if reach.key.is_none() => {
+        Err(TaskFault::Frame(FrameFault::Version)) if reach.key.is_none() => {
             eprintln!(rt; "trustd: {address}: wants a key: --key FILE")
         }
-        Err(Fault::Frame(FrameFault::Version)) => {
+        Err(TaskFault::Frame(FrameFault::Version)) => {
             eprintln!(rt; "trustd: {address}: wants no key")
         }
-        Err(Fault::Cut | Fault::Read | Fault::Write) if reach.key.is_some() => eprintln!(rt;
-            "trustd: {address}: can't be reached, or does not know this key"
-        ),
-        Err(Fault::Frame(FrameFault::Kind)) if reach.key.is_some() => {
+        Err(TaskFault::Cut | TaskFault::Read | TaskFault::Write) if reach.key.is_some() =>
+            eprintln!(rt; "trustd: {address}: can't be reached, or does not know this key"),
+        Err(TaskFault::Frame(FrameFault::Kind)) if reach.key.is_some() => {
             eprintln!(rt; "trustd: {address}: this key's role may not ask this")
         }
         _ => Ok(()),
@@ -188,10 +201,10 @@ pub(crate) fn server_at<'a, R: Files + Net + RandomSource + Eprint>(
     rt: &'a R,
     alloc: Global,
     reach: &Reach,
-) -> Result<Reached<'a, R>, Fault> {
+) -> Result<ReachedNode<'a, R>, TaskFault> {
     let key = key_in(rt, alloc, &reach.key)?;
     let address = String::from_str(alloc, reach.address.as_str())?;
-    Ok(Reached::new(alloc, rt, address, key))
+    Ok(ReachedNode::new(alloc, rt, address, key))
 }
 
 /// Submits a command to the server at an address, and waits for so many seconds until it is known
@@ -202,15 +215,19 @@ fn submit_for<R: Files + Net + Clock + RandomSource + Eprint>(
     reach: &Reach,
     command: Command,
     seconds: u32,
-) -> Result<Said, Fault> {
+) -> Result<Saying, TaskFault> {
     let mut server = server_at(rt, alloc, reach)?;
     let longest = Duration::from_secs(seconds as u64);
     let answer = submit_and_wait(rt, alloc, &mut server, command, longest)?;
-    if !matches!(answer, Frame::Settled { .. }) {
-        let _ = eprintln!(rt; "trustd: not chosen within {seconds} seconds; it may be later");
-        return Err(Fault::Unknown);
-    }
-    submit_said(alloc, &answer)
+    let said = match &answer {
+        Frame::Settled { .. } => submit_said(alloc, &answer),
+        _ => {
+            let _ = eprintln!(rt; "trustd: not chosen within {seconds} seconds; it may be later");
+            Err(TaskFault::Unknown)
+        }
+    };
+    drop(answer);
+    said
 }
 
 /// Submits the command that a file holds to the server at an address, and prints what it is
@@ -225,18 +242,18 @@ pub fn submit_file(
     reach: &Reach,
     file: &str,
     wait: u32,
-) -> Result<Ended, Fault> {
+) -> Result<Ending, TaskFault> {
     let alloc = rt.alloc();
     let octets = read_file(rt, alloc, file)?;
     let Some(command) = Command::read(alloc, &octets)? else {
-        return Err(Fault::Field);
+        return Err(TaskFault::Field);
     };
     let said = if wait == 0 {
         submit(alloc, &mut server_at(rt, alloc, reach)?, command)
     } else {
         submit_for(rt, alloc, reach, command, wait)
     };
-    let said = told(rt, reach, said)?;
+    let said = tell(rt, reach, said)?;
     say(rt, said.line.as_str())?;
     Ok(said.ended)
 }
@@ -247,10 +264,10 @@ fn explain_answer(
     alloc: Global,
     octets: &[u8],
     answer: &Answer,
-) -> Result<(), Fault> {
+) -> Result<(), TaskFault> {
     match Question::read(alloc, octets)? {
-        Some(question) => put(rt, &explained(alloc, &question, answer.reply())?),
-        None => Err(Fault::Field),
+        Some(question) => put(rt, &explanation(alloc, &question, answer.reply())?),
+        None => Err(TaskFault::Field),
     }
 }
 
@@ -266,14 +283,14 @@ pub fn ask_file(
     file: &str,
     check: bool,
     explain: bool,
-) -> Result<Ended, Fault> {
+) -> Result<Ending, TaskFault> {
     let alloc = rt.alloc();
     let octets = read_file(rt, alloc, file)?;
     let Some(question) = Question::read(alloc, &octets)? else {
-        return Err(Fault::Field);
+        return Err(TaskFault::Field);
     };
-    let answer = asked(alloc, &mut server_at(rt, alloc, reach)?, question);
-    let answer = told(rt, reach, answer)?;
+    let answer = answer_from(alloc, &mut server_at(rt, alloc, reach)?, question);
+    let answer = tell(rt, reach, answer)?;
     say(rt, ask_line(alloc, &answer)?.as_str())?;
     if explain {
         explain_answer(rt, alloc, &octets, &answer)?;
@@ -291,7 +308,7 @@ pub fn carry_messages(
     rt: &(impl AllocGlobal + Net + Print),
     addresses: &[String],
     rounds: u32,
-) -> Result<(), Fault> {
+) -> Result<(), TaskFault> {
     let alloc = rt.alloc();
     let mut peers = Vec::new(alloc);
     for address in addresses {

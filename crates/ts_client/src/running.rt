@@ -2,10 +2,10 @@
 
 ghost use Rattle.std.specs.Prelude.{◌≡◌, IsErr, Ok, OnErr, OnOk};
 ghost use Rattle.ts_cli.specs.Says.{IsInRange};
-ghost use Rattle.ts_client.specs.declared.ended.Ended.TheVariants.{Well};
+ghost use Rattle.ts_client.specs.declared.ended.Ending.TheVariants.{Well};
 
-use crate::ended::Ended;
-use crate::fault::Fault;
+use crate::ended::Ending;
+use crate::fault::TaskFault;
 use crate::keys::print_key;
 use crate::listing::{Rows, print_diff, print_rows};
 use crate::making::{make_command, make_question, print_id, show_file};
@@ -19,12 +19,12 @@ use std::rt::{Clock, Files};
 use ts_cli::Task;
 
 /// A task that asks for no answer ends well, unless it fails.
-pub fn well(ended: Result<(), Fault>) -> Result<Ended, Fault>
+pub fn well(ended: Result<(), TaskFault>) -> Result<Ending, TaskFault>
     ensures done { OnOk ended (result ≡ Ok Well) }
     ensures failed { OnErr ended (IsErr result) }
 {
     match ended {
-        Ok(()) => Ok(Ended::Well),
+        Ok(()) => Ok(Ending::Well),
         Err(fault) => Err(fault),
     }
 }
@@ -38,7 +38,7 @@ pub fn well(ended: Result<(), Fault>) -> Result<Ended, Fault>
 pub fn run<R: AllocGlobal + Files + Net + Clock + RandomSource + Print + Eprint + Clone + Drop>(
     rt: &R,
     task: &Task,
-) -> Result<Ended, Fault>
+) -> Result<Ending, TaskFault>
     requires { IsInRange task.now }
 {
     match task {
@@ -66,7 +66,7 @@ pub fn run<R: AllocGlobal + Files + Net + Clock + RandomSource + Print + Eprint 
 fn run_other<R: AllocGlobal + Files + Net + Clock + RandomSource + Print + Eprint>(
     rt: &R,
     task: &Task,
-) -> Result<(), Fault>
+) -> Result<(), TaskFault>
     requires { IsInRange task.now }
 {
     match task {

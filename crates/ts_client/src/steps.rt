@@ -1,12 +1,12 @@
 //! The steps by which a store comes to hold what files hold.
 
-use crate::fault::Fault;
+use crate::fault::TaskFault;
 use std::alloc::{AllocError, Global};
 use ts_octets::Octets;
 use ts_question::{AnchorRow, CrlRow};
 use ts_show::Line;
 use ts_store::{Command, TooLong, digest};
-use ts_sync::{Holding, Kind, Step, plan_named};
+use ts_sync::{Holding, PlanStep, StepKind, plan_named};
 
 /// A certificate or a CRL that a file holds.
 #[derive(Debug, Drop)]
@@ -32,7 +32,7 @@ impl Value {
 
 /// What files hold.
 #[derive(Debug, Drop)]
-pub(crate) struct Wanted {
+pub(crate) struct WantedFiles {
     /// The trust anchors; none to leave those of a store as they are.
     pub anchors: Vec<Value>,
     /// The CRLs; none to leave those of a store as they are.
@@ -44,7 +44,7 @@ pub(crate) struct Wanted {
 /// # Errors
 ///
 /// `Field` where octets are no row of a store; `Memory`.
-pub(crate) fn held_in(alloc: Global, rows: &[Vec<u8>]) -> Result<Holding, Fault> {
+pub(crate) fn held_in(alloc: Global, rows: &[Vec<u8>]) -> Result<Holding, TaskFault> {
     let mut held = Holding {
         anchors: Vec::new(alloc),
         crls: Vec::new(alloc),
@@ -57,7 +57,7 @@ pub(crate) fn held_in(alloc: Global, rows: &[Vec<u8>]) -> Result<Holding, Fault>
         }
         match CrlRow::read(octets)? {
             Some(row) => held.crls.push(row.id)?,
-            None => return Err(Fault::Field),
+            None => return Err(TaskFault::Field),
         }
     }
     Ok(held)
@@ -76,8 +76,8 @@ fn ids_of(alloc: Global, values: &[Value]) -> Result<Vec<[u8; 32]>, AllocError> 
 pub(crate) fn steps_from(
     alloc: Global,
     held: &Holding,
-    wanted: &Wanted,
-) -> Result<Vec<Step>, AllocError> {
+    wanted: &WantedFiles,
+) -> Result<Vec<PlanStep>, AllocError> {
     let anchors = ids_of(alloc, &wanted.anchors)?;
     let crls = ids_of(alloc, &wanted.crls)?;
     plan_named(alloc, held, &anchors, &crls)
@@ -94,11 +94,11 @@ fn value_in<'a>(values: &'a [Value], id: &[u8; 32]) -> Option<&'a Value> {
 }
 
 /// The value that a step brings, if it brings one.
-pub(crate) fn value_of<'a>(wanted: &'a Wanted, step: &Step) -> Option<&'a Value> {
+pub(crate) fn value_of<'a>(wanted: &'a WantedFiles, step: &PlanStep) -> Option<&'a Value> {
     match step.kind {
-        Kind::Add => value_in(&wanted.anchors, &step.id),
-        Kind::Load => value_in(&wanted.crls, &step.id),
-        Kind::Drop | Kind::Withdraw => None,
+        StepKind::Add => value_in(&wanted.anchors, &step.id),
+        StepKind::Load => value_in(&wanted.crls, &step.id),
+        StepKind::Drop | StepKind::Withdraw => None,
     }
 }
 
@@ -118,31 +118,31 @@ fn octets_of(alloc: Global, value: Option<&Value>) -> Result<Octets, AllocError>
 pub(crate) fn command_of(
     alloc: Global,
     id: [u8; 16],
-    step: &Step,
+    step: &PlanStep,
     value: Option<&Value>,
-) -> Result<Command, Fault> {
+) -> Result<Command, TaskFault> {
     let made: Result<Command, TooLong> = match step.kind {
-        Kind::Add => Command::add_anchor(id, octets_of(alloc, value)?),
-        Kind::Load => Command::load_crl(id, octets_of(alloc, value)?),
-        Kind::Drop => Ok(Command::DropCrl { id, crl: step.id }),
-        Kind::Withdraw => Ok(Command::WithdrawAnchor {
+        StepKind::Add => Command::add_anchor(id, octets_of(alloc, value)?),
+        StepKind::Load => Command::load_crl(id, octets_of(alloc, value)?),
+        StepKind::Drop => Ok(Command::DropCrl { id, crl: step.id }),
+        StepKind::Withdraw => Ok(Command::WithdrawAnchor {
             id,
             anchor: step.id,
         }),
     };
     match made {
         Ok(command) => Ok(command),
-        Err(_) => Err(Fault::TooLong),
+        Err(_) => Err(TaskFault::TooLong),
     }
 }
 
 /// The word for what a step does, as `trustd command` has it.
-fn word_of(kind: Kind) -> &'static str {
+fn word_of(kind: StepKind) -> &'static str {
     match kind {
-        Kind::Add => "add",
-        Kind::Load => "load",
-        Kind::Drop => "drop",
-        Kind::Withdraw => "withdraw",
+        StepKind::Add => "add",
+        StepKind::Load => "load",
+        StepKind::Drop => "drop",
+        StepKind::Withdraw => "withdraw",
     }
 }
 
@@ -151,7 +151,7 @@ fn word_of(kind: Kind) -> &'static str {
 /// # Errors
 ///
 /// Out of memory.
-pub fn step_line(alloc: Global, step: &Step, file: Option<&str>) -> Result<Line, AllocError> {
+pub fn step_line(alloc: Global, step: &PlanStep, file: Option<&str>) -> Result<Line, AllocError> {
     let mut line = Line::of(alloc, word_of(step.kind).as_bytes())?;
     line.text(b" ")?;
     line.hex(&step.id)?;

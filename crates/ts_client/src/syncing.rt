@@ -1,14 +1,14 @@
 //! A store is made to hold what files hold.
 
-use crate::ended::{Ended, ending_of};
-use crate::fault::Fault;
+use crate::ended::{Ending, ending_of};
+use crate::fault::TaskFault;
 use crate::folders::files_of;
-use crate::keyed::Reached;
+use crate::keyed::ReachedNode;
 use crate::listing::{all_rows, say_too_few};
 use crate::making::{draw_id, put};
 use crate::material::{is_certificate, values_in};
-use crate::requests::{server_at, told};
-use crate::steps::{Value, Wanted, command_of, held_in, step_line, steps_from, value_of};
+use crate::requests::{server_at, tell};
+use crate::steps::{Value, WantedFiles, command_of, held_in, step_line, steps_from, value_of};
 use crate::vouching::vouch_for_each;
 use crate::waiting::submit_and_wait;
 use std::alloc::{AllocError, Global};
@@ -21,7 +21,7 @@ use ts_cli::SyncWords;
 use ts_lab::text::outcome_text;
 use ts_show::{Kind, Line};
 use ts_store::Outcome;
-use ts_sync::Step;
+use ts_sync::PlanStep;
 use ts_wire::Frame;
 
 /// What the files that paths name hold of a kind.
@@ -29,7 +29,7 @@ fn values_of<R: AllocGlobal + Files + Eprint + Clone + Drop>(
     rt: &R,
     paths: &[String],
     wanted: Kind,
-) -> Result<Vec<Value>, Fault> {
+) -> Result<Vec<Value>, TaskFault> {
     let alloc = rt.alloc();
     let mut values = Vec::new(alloc);
     for file in files_of(rt, paths)? {
@@ -45,26 +45,26 @@ fn values_of<R: AllocGlobal + Files + Eprint + Clone + Drop>(
 fn wanted_by<R: AllocGlobal + Files + Eprint + Clone + Drop>(
     rt: &R,
     words: &SyncWords,
-) -> Result<Wanted, Fault> {
+) -> Result<WantedFiles, TaskFault> {
     let anchors = values_of(rt, &words.anchors, Kind::Certificate)?;
     for anchor in &anchors {
         if !is_certificate(rt, anchor.file.as_str(), &anchor.octets) {
-            return Err(Fault::Field);
+            return Err(TaskFault::Field);
         }
     }
     let crls = values_of(rt, &words.crls, Kind::List)?;
-    Ok(Wanted { anchors, crls })
+    Ok(WantedFiles { anchors, crls })
 }
 
 /// The CRLs that steps load.
 fn loaded_by<'a>(
     alloc: Global,
-    wanted: &'a Wanted,
-    steps: &[Step],
+    wanted: &'a WantedFiles,
+    steps: &[PlanStep],
 ) -> Result<Vec<&'a Value>, AllocError> {
     let mut loaded = Vec::new(alloc);
     for step in steps {
-        if step.kind == ts_sync::Kind::Load {
+        if step.kind == ts_sync::StepKind::Load {
             if let Some(value) = value_of(wanted, step) {
                 loaded.push(value)?;
             }
@@ -79,11 +79,11 @@ fn steps_to<R: Files + Net + Clock + RandomSource + Eprint>(
     rt: &R,
     alloc: Global,
     words: &SyncWords,
-    server: &mut Reached<'_, R>,
-    wanted: &Wanted,
-) -> Result<Option<Vec<Step>>, Fault> {
+    server: &mut ReachedNode<'_, R>,
+    wanted: &WantedFiles,
+) -> Result<Option<Vec<PlanStep>>, TaskFault> {
     let rows = all_rows(alloc, server, None);
-    let rows = match told(rt, &words.reach, rows)? {
+    let rows = match tell(rt, &words.reach, rows)? {
         Ok(rows) => rows,
         Err(few) => {
             let _ended = say_too_few(rt, few);
@@ -98,7 +98,7 @@ fn steps_to<R: Files + Net + Clock + RandomSource + Eprint>(
 }
 
 /// Prints a line.
-fn print_line(rt: &impl Print, alloc: Global, line: &Line) -> Result<(), Fault> {
+fn print_line(rt: &impl Print, alloc: Global, line: &Line) -> Result<(), TaskFault> {
     let mut text = Vec::new(alloc);
     text.extend_from_slice(line.as_slice())?;
     text.push(b'\n')?;
@@ -106,7 +106,7 @@ fn print_line(rt: &impl Print, alloc: Global, line: &Line) -> Result<(), Fault> 
 }
 
 /// The line of a step by what is wanted.
-fn line_of(alloc: Global, wanted: &Wanted, step: &Step) -> Result<Line, AllocError> {
+fn line_of(alloc: Global, wanted: &WantedFiles, step: &PlanStep) -> Result<Line, AllocError> {
     let file = match value_of(wanted, step) {
         Some(value) => Some(value.file.as_str()),
         None => None,
@@ -121,7 +121,7 @@ fn print_settled(
     mut line: Line,
     position: u32,
     outcome: Outcome,
-) -> Result<(), Fault> {
+) -> Result<(), TaskFault> {
     line.text(b" settled ")?;
     line.number(u64::from(position))?;
     line.word(outcome_text(alloc, outcome)?.as_bytes())?;
@@ -133,18 +133,24 @@ fn submit_step<R: Files + Net + Clock + RandomSource + Print + Eprint>(
     rt: &R,
     alloc: Global,
     words: &SyncWords,
-    server: &mut Reached<'_, R>,
-    wanted: &Wanted,
-    step: &Step,
-) -> Result<Ended, Fault> {
+    server: &mut ReachedNode<'_, R>,
+    wanted: &WantedFiles,
+    step: &PlanStep,
+) -> Result<Ending, TaskFault> {
     let line = line_of(alloc, wanted, step)?;
     let command = command_of(alloc, draw_id(rt)?, step, value_of(wanted, step))?;
     let longest = Duration::from_secs(words.wait as u64);
     let answer = submit_and_wait(rt, alloc, server, command, longest);
-    let Frame::Settled { position, outcome } = told(rt, &words.reach, answer)? else {
+    let answer = tell(rt, &words.reach, answer)?;
+    let settled = match &answer {
+        Frame::Settled { position, outcome } => Some((*position, *outcome)),
+        _ => None,
+    };
+    drop(answer);
+    let Some((position, outcome)) = settled else {
         let seconds = words.wait;
         let _ = eprintln!(rt; "trustd: not chosen within {seconds} seconds; it may be later");
-        return Err(Fault::Unknown);
+        return Err(TaskFault::Unknown);
     };
     print_settled(rt, alloc, line, position, outcome)?;
     Ok(ending_of(outcome))
@@ -156,29 +162,29 @@ fn follow<R: Files + Net + Clock + RandomSource + Print + Eprint>(
     rt: &R,
     alloc: Global,
     words: &SyncWords,
-    server: &mut Reached<'_, R>,
-    wanted: &Wanted,
-    steps: &[Step],
+    server: &mut ReachedNode<'_, R>,
+    wanted: &WantedFiles,
+    steps: &[PlanStep],
     all: bool,
-) -> Result<Ended, Fault> {
+) -> Result<Ending, TaskFault> {
     for step in steps {
         if all || step.kind.brings() {
             match submit_step(rt, alloc, words, server, wanted, step)? {
-                Ended::Well => {}
-                Ended::Refused => return Ok(Ended::Refused),
+                Ending::Well => {}
+                Ending::Refused => return Ok(Ending::Refused),
             }
         }
     }
-    Ok(Ended::Well)
+    Ok(Ending::Well)
 }
 
 /// Prints the lines of steps.
 fn print_steps(
     rt: &impl Print,
     alloc: Global,
-    wanted: &Wanted,
-    steps: &[Step],
-) -> Result<(), Fault> {
+    wanted: &WantedFiles,
+    steps: &[PlanStep],
+) -> Result<(), TaskFault> {
     for step in steps {
         print_line(rt, alloc, &line_of(alloc, wanted, step)?)?;
     }
@@ -196,26 +202,26 @@ fn print_steps(
 /// node; `Unknown` where a command is not known to be chosen in time.
 pub(crate) fn sync_store<
     R: AllocGlobal + Files + Net + Clock + RandomSource + Print + Eprint + Clone + Drop,
->(rt: &R, words: &SyncWords) -> Result<Ended, Fault> {
+>(rt: &R, words: &SyncWords) -> Result<Ending, TaskFault> {
     let alloc = rt.alloc();
     let wanted = wanted_by(rt, words)?;
     let mut server = server_at(rt, alloc, &words.reach)?;
     let Some(steps) = steps_to(rt, alloc, words, &mut server, &wanted)? else {
-        return Ok(Ended::Refused);
+        return Ok(Ending::Refused);
     };
     if words.dry_run {
         print_steps(rt, alloc, &wanted, &steps)?;
-        return Ok(Ended::Well);
+        return Ok(Ending::Well);
     }
     if !steps.iter().any(|step| step.kind.brings()) {
         return follow(rt, alloc, words, &mut server, &wanted, &steps, true);
     }
     match follow(rt, alloc, words, &mut server, &wanted, &steps, false)? {
-        Ended::Well => {}
-        Ended::Refused => return Ok(Ended::Refused),
+        Ending::Well => {}
+        Ending::Refused => return Ok(Ending::Refused),
     }
     let Some(steps) = steps_to(rt, alloc, words, &mut server, &wanted)? else {
-        return Ok(Ended::Refused);
+        return Ok(Ending::Refused);
     };
     follow(rt, alloc, words, &mut server, &wanted, &steps, true)
 }

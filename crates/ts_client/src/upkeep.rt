@@ -1,8 +1,8 @@
 //! What keeps a node in order: its state is asked for, what it missed is asked of the others, its
 //! record is rewritten.
 
-use crate::fault::Fault;
-use crate::requests::{answer_to, say, server_at, told};
+use crate::fault::TaskFault;
+use crate::requests::{answer_to, say, server_at, tell};
 use std::alloc::Global;
 use std::io::Print;
 use std::net::Net;
@@ -42,7 +42,7 @@ impl Upkeep {
 }
 
 /// The text of a report. It is the node's own: what is no text is left out.
-fn text_of(alloc: Global, text: &[u8]) -> Result<String, Fault> {
+fn text_of(alloc: Global, text: &[u8]) -> Result<String, TaskFault> {
     match str::from_utf8(text) {
         Ok(text) => Ok(String::from_str(alloc, text)?),
         Err(_) => Ok(String::new(alloc)),
@@ -50,7 +50,7 @@ fn text_of(alloc: Global, text: &[u8]) -> Result<String, Fault> {
 }
 
 /// The line that says an answer.
-fn line_of(alloc: Global, upkeep: Upkeep, answer: &Frame) -> Result<String, Fault> {
+fn line_of(alloc: Global, upkeep: Upkeep, answer: &Frame) -> Result<String, TaskFault> {
     match (upkeep, answer) {
         (Upkeep::Status, Frame::Prefix { prefix }) => {
             let prefix = *prefix;
@@ -68,7 +68,7 @@ fn line_of(alloc: Global, upkeep: Upkeep, answer: &Frame) -> Result<String, Faul
         (Upkeep::Compact, Frame::Done { .. }) => {
             Ok(String::from_str(alloc, "compact switched\n")?)
         }
-        _ => Err(Fault::Frame(FrameFault::Kind)),
+        _ => Err(TaskFault::Frame(FrameFault::Kind)),
     }
 }
 
@@ -79,12 +79,14 @@ fn line_of(alloc: Global, upkeep: Upkeep, answer: &Frame) -> Result<String, Faul
 /// # Errors
 ///
 /// Those of the exchange; the node's; `Frame` where the answer is none to this.
-pub fn tend<P: Peer>(alloc: Global, peer: &mut P, upkeep: Upkeep) -> Result<String, Fault>
+pub fn tend<P: Peer>(alloc: Global, peer: &mut P, upkeep: Upkeep) -> Result<String, TaskFault>
     requires { P.is_ready peer.old }
     ensures { P.is_ready peer.new }
 {
     let answer = answer_to(alloc, peer, upkeep.frame())?;
-    line_of(alloc, upkeep, &answer)
+    let line = line_of(alloc, upkeep, &answer);
+    drop(answer);
+    line
 }
 
 /// Adds the line that says what a peer is answered to this. A peer of an earlier version doesn't
@@ -94,13 +96,13 @@ fn add_line<P: Peer>(
     peer: &mut P,
     upkeep: Upkeep,
     text: &mut String,
-) -> Result<(), Fault>
+) -> Result<(), TaskFault>
     requires { P.is_ready peer.old }
     ensures { P.is_ready peer.new }
 {
     match tend(alloc, peer, upkeep) {
         Ok(line) => Ok(text.push_str(line.as_str())?),
-        Err(Fault::Frame(FrameFault::Kind)) => Ok(()),
+        Err(TaskFault::Frame(FrameFault::Kind)) => Ok(()),
         Err(fault) => Err(fault),
     }
 }
@@ -111,7 +113,7 @@ fn add_line<P: Peer>(
 /// # Errors
 ///
 /// Those of the exchanges; the node's.
-pub fn state_of<P: Peer>(alloc: Global, peer: &mut P) -> Result<String, Fault>
+pub fn state_of<P: Peer>(alloc: Global, peer: &mut P) -> Result<String, TaskFault>
     requires { P.is_ready peer.old }
     ensures { P.is_ready peer.new }
 {
@@ -129,10 +131,10 @@ pub fn state_of<P: Peer>(alloc: Global, peer: &mut P) -> Result<String, Fault>
 pub fn print_state(
     rt: &(impl AllocGlobal + Files + Net + RandomSource + Print + Eprint),
     reach: &Reach,
-) -> Result<(), Fault> {
+) -> Result<(), TaskFault> {
     let alloc = rt.alloc();
     let text = state_of(alloc, &mut server_at(rt, alloc, reach)?);
-    say(rt, told(rt, reach, text)?.as_str())
+    say(rt, tell(rt, reach, text)?.as_str())
 }
 
 /// Asks this of the server at an address, and prints what it is answered.
@@ -144,8 +146,8 @@ pub fn tend_server(
     rt: &(impl AllocGlobal + Files + Net + RandomSource + Print + Eprint),
     reach: &Reach,
     upkeep: Upkeep,
-) -> Result<(), Fault> {
+) -> Result<(), TaskFault> {
     let alloc = rt.alloc();
     let line = tend(alloc, &mut server_at(rt, alloc, reach)?, upkeep);
-    say(rt, told(rt, reach, line)?.as_str())
+    say(rt, tell(rt, reach, line)?.as_str())
 }

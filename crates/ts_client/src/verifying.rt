@@ -3,7 +3,7 @@
 ghost use Rattle.std.specs.Prelude.{◌≤◌, IfOk, length};
 
 use crate::clock::now;
-use crate::fault::Fault;
+use crate::fault::TaskFault;
 use crate::making::put;
 use crate::material::octets_of;
 use crate::requests::say;
@@ -14,6 +14,7 @@ use ts_cert::Cert;
 use ts_check::NativeCheck;
 use ts_cli::VerifyWords;
 use ts_crl::Crl;
+use ts_der::{Oid, OidRef};
 use ts_host::Host;
 use ts_path::{Anchor, Inputs};
 use ts_report::{json, text};
@@ -26,7 +27,7 @@ use ts_verify::{Finding, Report, verify};
 const MAX_CERTIFICATES: usize = 33;
 
 /// The moment that is asked about: the one that is given, else that of the clock.
-fn moment_of<R: Clock>(rt: &R, words: &VerifyWords) -> Result<Moment, Fault> {
+fn moment_of<R: Clock>(rt: &R, words: &VerifyWords) -> Result<Moment, TaskFault> {
     match words.moment {
         Some(moment) => Ok(Moment(moment)),
         None => now(rt),
@@ -39,7 +40,7 @@ fn anchors_in<'a>(
     rt: &impl Eprint,
     alloc: Global,
     octets: &'a [Vec<u8>],
-) -> Result<Vec<Anchor<'a>>, Fault>
+) -> Result<Vec<Anchor<'a>>, TaskFault>
     ensures { IfOk result (λ anchors. 1 ≤ length anchors.items) }
 {
     let mut anchors = Vec::new(alloc);
@@ -56,7 +57,7 @@ fn anchors_in<'a>(
         );
     }
     if anchors.is_empty() {
-        return Err(Fault::Field);
+        return Err(TaskFault::Field);
     }
     Ok(anchors)
 }
@@ -66,7 +67,7 @@ fn certificates_in<'a>(
     rt: &impl Eprint,
     alloc: Global,
     octets: &'a [Vec<u8>],
-) -> Result<Vec<Cert<'a>>, Fault>
+) -> Result<Vec<Cert<'a>>, TaskFault>
     ensures some { IfOk result (λ certificates. 1 ≤ length certificates.items) }
     ensures few { IfOk result (λ certificates. length certificates.items ≤ 33) }
 {
@@ -80,13 +81,13 @@ fn certificates_in<'a>(
                 let _ = eprintln!(rt;
                     "trustd: certificate {place} can't be read: {rule} at octet {at}"
                 );
-                return Err(Fault::Field);
+                return Err(TaskFault::Field);
             }
         }
     }
     if certificates.is_empty() || certificates.len() > MAX_CERTIFICATES {
         let _ = eprintln!(rt; "trustd: there are 1 to {MAX_CERTIFICATES} certificates");
-        return Err(Fault::OutOfLimits);
+        return Err(TaskFault::OutOfLimits);
     }
     Ok(certificates)
 }
@@ -96,7 +97,7 @@ fn crls_in<'a>(
     rt: &impl Eprint,
     alloc: Global,
     octets: &'a [Vec<u8>],
-) -> Result<(Vec<Crl<'a>>, Vec<Crl<'a>>), Fault> {
+) -> Result<(Vec<Crl<'a>>, Vec<Crl<'a>>), TaskFault> {
     let mut lists = Vec::new(alloc);
     let mut deltas = Vec::new(alloc);
     for (place, value) in octets.iter().enumerate() {
@@ -106,7 +107,7 @@ fn crls_in<'a>(
             Err(fault) => {
                 let place = place.saturating_add(1);
                 let _ = eprintln!(rt; "trustd: CRL {place} can't be used: {fault}");
-                return Err(Fault::Field);
+                return Err(TaskFault::Field);
             }
         }
     }
@@ -114,7 +115,7 @@ fn crls_in<'a>(
 }
 
 /// The host that the leaf is to be for, if one is given.
-fn host_of<'a>(rt: &impl Eprint, words: &'a VerifyWords) -> Result<Option<Host<'a>>, Fault> {
+fn host_of<'a>(rt: &impl Eprint, words: &'a VerifyWords) -> Result<Option<Host<'a>>, TaskFault> {
     let Some(name) = &words.host else {
         return Ok(None);
     };
@@ -122,7 +123,7 @@ fn host_of<'a>(rt: &impl Eprint, words: &'a VerifyWords) -> Result<Option<Host<'
         Ok(host) => Ok(Some(host)),
         Err(fault) => {
             let _ = eprintln!(rt; "trustd: {name}: {fault}");
-            Err(Fault::Field)
+            Err(TaskFault::Field)
         }
     }
 }
@@ -134,29 +135,29 @@ fn is_valid(report: &Report<'_>) -> bool {
 
 /// The purpose that the leaf is to have, if one is given, as the content octets of its object
 /// identifier.
-fn purpose_of(alloc: Global, words: &VerifyWords) -> Result<Option<Vec<u8>>, Fault> {
+fn purpose_of(alloc: Global, words: &VerifyWords) -> Result<Option<Vec<u8>>, TaskFault> {
     match &words.purpose {
         Some(purpose) => Ok(Some(Vec::from_slice(alloc, purpose.as_ref().content)?)),
         None => Ok(None),
     }
 }
 
-/// The policies that the user accepts, each as the content octets of its object identifier.
-fn policies_of(alloc: Global, words: &VerifyWords) -> Result<Vec<Vec<u8>>, Fault> {
+/// The policies that the user accepts.
+fn policies_of(alloc: Global, words: &VerifyWords) -> Result<Vec<Oid>, TaskFault> {
     let mut policies = Vec::new(alloc);
     for policy in words.policies.as_slice() {
-        policies.push(Vec::from_slice(alloc, policy.as_ref().content)?)?;
+        policies.push(Oid::from_oid(alloc, policy.as_ref())?)?;
     }
     Ok(policies)
 }
 
 /// What the files and the words hold. All is borrowed from here, so that it has one lifetime.
 #[derive(Drop)]
-struct Given {
+struct GivenChain {
     anchors: Vec<Vec<u8>>,
     certificates: Vec<Vec<u8>>,
     crls: Vec<Vec<u8>>,
-    policies: Vec<Vec<u8>>,
+    policies: Vec<Oid>,
     purpose: Option<Vec<u8>>,
 }
 
@@ -167,29 +168,33 @@ struct Views<'a> {
     certificates: Vec<Cert<'a>>,
     lists: Vec<Crl<'a>>,
     deltas: Vec<Crl<'a>>,
-    policies: Vec<&'a [u8]>,
+    policies: Vec<OidRef<'a>>,
     purpose: Option<&'a [u8]>,
 }
 
 /// Octets, borrowed.
-fn borrowed(octets: &Option<Vec<u8>>) -> Option<&[u8]> {
+fn borrow(octets: &Option<Vec<u8>>) -> Option<&[u8]> {
     match octets {
         Some(octets) => Some(octets),
         None => None,
     }
 }
 
-/// Lists of octets, borrowed.
-fn all_borrowed(alloc: Global, lists: &[Vec<u8>]) -> Result<Vec<&[u8]>, Fault> {
-    let mut slices = Vec::new(alloc);
-    for list in lists {
-        slices.push(list.as_slice())?;
+/// Object identifiers, borrowed.
+fn all_borrowed(alloc: Global, oids: &[Oid]) -> Result<Vec<OidRef<'_>>, TaskFault> {
+    let mut borrowed = Vec::new(alloc);
+    for oid in oids {
+        borrowed.push(oid.as_ref())?;
     }
-    Ok(slices)
+    Ok(borrowed)
 }
 
 /// What is judged, of what is given.
-fn views_of<'a>(rt: &impl Eprint, alloc: Global, given: &'a Given) -> Result<Views<'a>, Fault>
+fn views_of<'a>(
+    rt: &impl Eprint,
+    alloc: Global,
+    given: &'a GivenChain,
+) -> Result<Views<'a>, TaskFault>
     ensures anchored { IfOk result (λ views. 1 ≤ length views.anchors.items) }
     ensures some { IfOk result (λ views. 1 ≤ length views.certificates.items) }
     ensures few { IfOk result (λ views. length views.certificates.items ≤ 33) }
@@ -204,7 +209,7 @@ fn views_of<'a>(rt: &impl Eprint, alloc: Global, given: &'a Given) -> Result<Vie
         lists,
         deltas,
         policies,
-        purpose: borrowed(&given.purpose),
+        purpose: borrow(&given.purpose),
     })
 }
 
@@ -212,7 +217,7 @@ fn views_of<'a>(rt: &impl Eprint, alloc: Global, given: &'a Given) -> Result<Vie
 fn inputs_of<'a>(
     words: &VerifyWords,
     moment: Moment,
-    policies: &'a [&'a [u8]],
+    policies: &'a [OidRef<'a>],
     purpose: Option<&'a [u8]>,
     hard: bool,
 ) -> Inputs<'a> {
@@ -235,7 +240,7 @@ fn print_report<R: AllocGlobal + Print>(
     rt: &R,
     words: &VerifyWords,
     report: &Report<'_>,
-) -> Result<(), Fault> {
+) -> Result<(), TaskFault> {
     let alloc = rt.alloc();
     if words.json {
         let line = json(alloc, report)?;
@@ -252,7 +257,7 @@ fn judge<'a, R: AllocGlobal + Print + Eprint>(
     moment: Moment,
     host: Option<Host<'_>>,
     views: Views<'a>,
-) -> Result<bool, Fault>
+) -> Result<bool, TaskFault>
     requires anchored { 1 ≤ length views.anchors.items }
     requires some { 1 ≤ length views.certificates.items }
     requires few { length views.certificates.items ≤ 33 }
@@ -295,10 +300,10 @@ fn judge<'a, R: AllocGlobal + Print + Eprint>(
 pub fn verify_files<R: AllocGlobal + Files + Clock + Print + Eprint>(
     rt: &R,
     words: &VerifyWords,
-) -> Result<bool, Fault> {
+) -> Result<bool, TaskFault> {
     let alloc = rt.alloc();
     let moment = moment_of(rt, words)?;
-    let given = Given {
+    let given = GivenChain {
         anchors: octets_of(rt, alloc, &words.anchors, Kind::Certificate)?,
         certificates: octets_of(rt, alloc, &words.certificates, Kind::Certificate)?,
         crls: octets_of(rt, alloc, &words.crls, Kind::List)?,

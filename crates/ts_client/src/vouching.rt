@@ -1,7 +1,7 @@
 //! A CRL is checked before the command that loads it is written.
 
 use crate::clock::now;
-use crate::fault::Fault;
+use crate::fault::TaskFault;
 use crate::material::octets_of;
 use crate::steps::Value;
 use std::alloc::Global;
@@ -19,7 +19,7 @@ fn issuers_in<'a>(
     rt: &impl Eprint,
     alloc: Global,
     octets: &'a [Vec<u8>],
-) -> Result<Vec<Cert<'a>>, Fault> {
+) -> Result<Vec<Cert<'a>>, TaskFault> {
     let mut issuers = Vec::new(alloc);
     for value in octets {
         match Cert::read(value) {
@@ -27,7 +27,7 @@ fn issuers_in<'a>(
             Err(fault) => {
                 let (rule, at) = (fault.kind, fault.at);
                 let _ = eprintln!(rt; "trustd: --issuer: no certificate: {rule} at {at}");
-                return Err(Fault::Field);
+                return Err(TaskFault::Field);
             }
         }
     }
@@ -42,16 +42,16 @@ fn vouch_by(
     octets: &[u8],
     issuers: &[Cert<'_>],
     moment: Moment,
-) -> Result<(), Fault> {
+) -> Result<(), TaskFault> {
     let Ok(crl) = Crl::read(octets) else {
         let _ = eprintln!(rt; "trustd: {path}: no CRL that a store takes");
-        return Err(Fault::BadCrl);
+        return Err(TaskFault::BadCrl);
     };
     match vouch(&crl, issuers, moment, &NativeCheck) {
         Ok(()) => Ok(()),
         Err(doubt) => {
             let _ = eprintln!(rt; "trustd: {path}: {doubt}");
-            Err(Fault::BadCrl)
+            Err(TaskFault::BadCrl)
         }
     }
 }
@@ -69,7 +69,7 @@ pub(crate) fn vouch_for<R: Files + Clock + Eprint>(
     path: &str,
     octets: &[u8],
     issuers: &[String],
-) -> Result<(), Fault> {
+) -> Result<(), TaskFault> {
     let given = octets_of(rt, alloc, issuers, Kind::Certificate)?;
     let issuers = issuers_in(rt, alloc, &given)?;
     vouch_by(rt, path, octets, &issuers, now(rt)?)
@@ -99,7 +99,7 @@ pub(crate) fn vouch_for_each<R: Files + Clock + Eprint>(
     words: &SyncWords,
     anchors: &[Value],
     crls: &[&Value],
-) -> Result<(), Fault> {
+) -> Result<(), TaskFault> {
     if crls.is_empty() {
         return Ok(());
     }
@@ -107,7 +107,7 @@ pub(crate) fn vouch_for_each<R: Files + Clock + Eprint>(
         return if are_crls(rt, crls) {
             Ok(())
         } else {
-            Err(Fault::BadCrl)
+            Err(TaskFault::BadCrl)
         };
     }
     let given = octets_of(rt, alloc, &words.issuers, Kind::Certificate)?;

@@ -1,7 +1,7 @@
 //! A command is submitted, and waited for.
 
-use crate::fault::Fault;
-use crate::keyed::Reached;
+use crate::fault::TaskFault;
+use crate::keyed::ReachedNode;
 use crate::pausing::pause;
 use crate::requests::answer_of;
 use std::alloc::Global;
@@ -23,12 +23,39 @@ const LONGEST: u64 = 320;
 const LOOKS: u32 = 20;
 
 /// How much time is left, in milliseconds.
-fn left<R: Clock>(rt: &R, start: Instant, longest: Duration) -> Result<u64, Fault> {
+fn time_left<R: Clock>(rt: &R, start: Instant, longest: Duration) -> Result<u64, TaskFault> {
     let Ok(elapsed) = start.elapsed(rt) else {
-        return Err(Fault::Clock);
+        return Err(TaskFault::Clock);
     };
     let left = longest.saturating_sub(elapsed).as_millis();
     Ok(u64::try_from(left).unwrap_or(u64::MAX))
+}
+
+/// Hands a node a request, and asks it then, until the command is known to be chosen or the time is
+/// over. Gives the node's last answer.
+fn look_until<R: Net + Clock + RandomSource>(
+    rt: &R,
+    alloc: Global,
+    server: &mut ReachedNode<'_, R>,
+    request: &Frame,
+    asked: &Frame,
+    start: Instant,
+    longest: Duration,
+) -> Result<Frame, TaskFault> {
+    let mut millis = FIRST;
+    for look in 0..u32::MAX {
+        let next = if look % LOOKS == 0 { request } else { asked };
+        let answer = answer_of(alloc, server, next)?;
+        let left = time_left(rt, start, longest);
+        let is_settled = matches!(&answer, Frame::Settled { .. });
+        if left == Ok(0) || (is_settled && left.is_ok()) {
+            return Ok(answer);
+        }
+        drop(answer);
+        pause(rt, alloc, millis.min(left?))?;
+        millis = millis.saturating_mul(2).min(LONGEST);
+    }
+    answer_of(alloc, server, asked)
 }
 
 /// Submits a command, and waits for at most so long until the node knows it to be chosen. Gives the
@@ -40,26 +67,17 @@ fn left<R: Clock>(rt: &R, start: Instant, longest: Duration) -> Result<u64, Faul
 pub(crate) fn submit_and_wait<R: Net + Clock + RandomSource>(
     rt: &R,
     alloc: Global,
-    server: &mut Reached<'_, R>,
+    server: &mut ReachedNode<'_, R>,
     command: Command,
     longest: Duration,
-) -> Result<Frame, Fault> {
+) -> Result<Frame, TaskFault> {
     let Ok(start) = Instant::now(rt) else {
-        return Err(Fault::Clock);
+        return Err(TaskFault::Clock);
     };
     let asked = Frame::Outcome { id: command.id() };
     let request = Frame::Submit { command };
-    let mut answer = answer_of(alloc, server, &request)?;
-    let mut millis = FIRST;
-    for look in 1..u32::MAX {
-        let left = left(rt, start, longest)?;
-        if left == 0 || matches!(answer, Frame::Settled { .. }) {
-            return Ok(answer);
-        }
-        pause(rt, alloc, millis.min(left))?;
-        millis = millis.saturating_mul(2).min(LONGEST);
-        let next = if look % LOOKS == 0 { &request } else { &asked };
-        answer = answer_of(alloc, server, next)?;
-    }
-    Ok(answer)
+    let answer = look_until(rt, alloc, server, &request, &asked, start, longest);
+    drop(asked);
+    drop(request);
+    answer
 }

@@ -1,9 +1,11 @@
 -- A part is read in one way: what is read is encoded so, and what is encoded so is read.
-use Rattle.std.proofs.Common.{◌≡◌, ℕ, zero, suc, ◌+◌, ◌<◌, Bool, true, false, eqb, List, [], ◌∷◌, ◌++◌, length, get_or, take, drop, Option, Some, None, Result, Ok, Err, refl, sym, ap, subst, ◌∙◌, arith, inl, inr}
+use Rattle.std.proofs.Common.{◌≡◌, ℕ, zero, suc, ◌+◌, ◌<◌, Bool, true, false, eqb, List, [], ◌∷◌}
+use Rattle.std.proofs.Common.{◌++◌, length, get_or, take, drop, Option, Some, None, Result, Ok, Err}
+use Rattle.std.proofs.Common.{refl, sym, ap, subst, ◌∙◌, arith, inl, inr}
 use Rattle.std.specs.Prelude.{IfOk, IfSome}
 use Rattle.std.proofs.lemmas.Bool.{cases_lt, eqb-true}
 use Rattle.std.proofs.lemmas.List.{length-take, get_or-drop, get_or-take, get_or_past, append-nil, nil_from_length}
-use Rattle.ts_codec.specs.Reading.{Reader, ◌>>=◌, provided, whole}
+use Rattle.ts_codec.specs.Reading.{Reader, ◌>>=◌, value_if, whole}
 
 abbrev pub IsBytes : List ℕ → Type 0
 IsBytes bytes = (i : ℕ) → get_or bytes i 0 < 256
@@ -51,11 +53,11 @@ step {A = A} {B = B} {P = P} {read = read} part octets f y bytes is go = by (rea
     by None e h = absurd (cc h)
     by (Some x) e h = let t = part.takes octets x.0 x.1 bytes e in go x.0 x.1 t.0.is t.0.more t.1 h
 
-pub test : {A B P : Type 0} (b : Bool) (x : A) (f : A → Option B) (y : B) → (provided b x >>= f) ≡ Some y → (b ≡ true → f x ≡ Some y → P) → P
+pub test : {A B P : Type 0} (b : Bool) (x : A) (f : A → Option B) (y : B) → (value_if b x >>= f) ≡ Some y → (b ≡ true → f x ≡ Some y → P) → P
 test true x f y is go = go refl is
 test false x f y is go = absurd (cc is)
 
-pub provided_is : {A P : Type 0} (b : Bool) (x y : A) → provided b x ≡ Some y → (b ≡ true → x ≡ y → P) → P
+pub provided_is : {A P : Type 0} (b : Bool) (x y : A) → value_if b x ≡ Some y → (b ≡ true → x ≡ y → P) → P
 provided_is {A} true x y is go = go refl (by (Some x) (Some y) is)
   where
     by : (a b : Option A) → a ≡ b → x ≡ y
@@ -65,15 +67,19 @@ provided_is false x y is go = absurd (cc is)
 pub some_is : {A : Type 0} (x y : A) → Some x ≡ Some y → x ≡ y
 some_is {A} x y e = let e : (let s : Option A = Some x in s) ≡ Some y = e in cc
 
-pub made : {A : Type 0} (encode : A → List ℕ) (Fit : A → Type 0) (octets after : List ℕ) (y x : A) (rest : List ℕ) → answer y after ≡ answer x rest → octets ≡ encode y ++ after → IsBytes after → Fit y → Takes octets (encode x) rest × Fit x
+pub made : {A : Type 0} (encode : A → List ℕ) (Fit : A → Type 0) (octets after : List ℕ) (y x : A)
+    (rest : List ℕ) → answer y after ≡ answer x rest → octets ≡ encode y ++ after → IsBytes after
+    → Fit y → Takes octets (encode x) rest × Fit x
 made {A} encode Fit octets after y x rest e is bytes fit =
     subst (λ (z : A × List ℕ). Takes octets (encode z.0) z.1 × Fit z.0) (some_is {A = A × List ℕ} (y, after) (x, rest) e) (record { is = is; more = bytes }, fit)
 
 -- ---- all of the octets
 
-pub whole_takes : {A : Type 0} {encode : A → List ℕ} {Fit : A → Type 0} {read : Reader A} (part : Part encode Fit read) (octets : List ℕ) (x : A) → IsBytes octets → whole (read octets) ≡ Some x → Fit x × (octets ≡ encode x)
+pub whole_takes : {A : Type 0} {encode : A → List ℕ} {Fit : A → Type 0} {read : Reader A}
+    (part : Part encode Fit read) (octets : List ℕ) (x : A) → IsBytes octets
+    → whole (read octets) ≡ Some x → Fit x × (octets ≡ encode x)
 whole_takes {A} {encode} {Fit} {read} part octets x bytes is =
-    step part octets (λ x. provided (eqb (length x.1) 0) x.0) x bytes is
+    step part octets (λ x. value_if (eqb (length x.1) 0) x.0) x bytes is
     (λ y after first more fit e. provided_is (eqb (length after) 0) y x e
     (λ ended same.
     let nothing : after ≡ [] = nil_from_length after (eqb-true _ _ ended) in
@@ -89,7 +95,9 @@ pub one : {A : Type 0} {encode : A → List ℕ} {Fit : A → Type 0} {read : Re
 one {read = read} part x y fit too is = some_is x y (sym (whole_again part x fit) ∙ ap (λ l. whole (read l)) is ∙ whole_again part y too)
 
 -- what is read of all octets is encoded so
-pub found : {A : Type 0} {encode : A → List ℕ} {Fit : A → Type 0} {read : Reader A} (part : Part encode Fit read) (octets : List ℕ) → IsBytes octets → (r : Option A) → r ≡ whole (read octets) → IfSome r (λ x. Fit x × (octets ≡ encode x))
+pub found : {A : Type 0} {encode : A → List ℕ} {Fit : A → Type 0} {read : Reader A}
+    (part : Part encode Fit read) (octets : List ℕ) → IsBytes octets → (r : Option A)
+    → r ≡ whole (read octets) → IfSome r (λ x. Fit x × (octets ≡ encode x))
 found part octets bytes None is = tt
 found part octets bytes (Some x) is = whole_takes part octets x bytes (sym is)
 
@@ -98,11 +106,15 @@ pub only : {A : Type 0} {encode : A → List ℕ} {Fit : A → Type 0} {read : R
 only {read = read} part octets x fit is = ap (λ l. whole (read l)) is ∙ whole_again part x fit
 
 -- what was read is the value that the octets encode
-pub the_one : {A : Type 0} {encode : A → List ℕ} {Fit : A → Type 0} {read : Reader A} (part : Part encode Fit read) (octets : List ℕ) (x y : A) → whole (read octets) ≡ Some x → Fit y → octets ≡ encode y → x ≡ y
+pub the_one : {A : Type 0} {encode : A → List ℕ} {Fit : A → Type 0} {read : Reader A}
+    (part : Part encode Fit read) (octets : List ℕ) (x y : A) → whole (read octets) ≡ Some x → Fit y
+    → octets ≡ encode y → x ≡ y
 the_one part octets x y is fit encoded = some_is x y (sym is ∙ only part octets y fit encoded)
 
 -- where nothing is read, they encode no value
-pub no_one : {A : Type 0} {encode : A → List ℕ} {Fit : A → Type 0} {read : Reader A} (part : Part encode Fit read) (octets : List ℕ) (y : A) → whole (read octets) ≡ None → Fit y → octets ≡ encode y → ⊥
+pub no_one : {A : Type 0} {encode : A → List ℕ} {Fit : A → Type 0} {read : Reader A}
+    (part : Part encode Fit read) (octets : List ℕ) (y : A) → whole (read octets) ≡ None → Fit y
+    → octets ≡ encode y → ⊥
 no_one {A} part octets y is fit encoded = absurd (by y (sym is ∙ only part octets y fit encoded))
   where
     by : (x : A) → None ≡ Some x → ⊥

@@ -43,18 +43,25 @@ unfolding blob32_at
 blob32_part = counted (to_be_bytes w32) (2 ^ 32) (number_at w32) number32
 
 -- a blob that is all of a value's octets
-pub within_blob : {A : Type 0} {encode : A → List ℕ} {Fit : A → Type 0} {read : Reader A} → Part encode Fit read → Part (λ x. blob32 (encode x)) (λ x. Fit x × (length (encode x) < 2 ^ 32)) (within_blob_at read)
+pub within_blob : {A : Type 0} {encode : A → List ℕ} {Fit : A → Type 0} {read : Reader A}
+    → Part encode Fit read
+    → Part (λ x. blob32 (encode x)) (λ x. Fit x × (length (encode x) < 2 ^ 32))
+    (within_blob_at read)
 unfolding within_blob_at
 within_blob {A} {encode} {Fit} {read} part = record { takes = takes; again = again }
   where
-    by : (octets : List ℕ) (x : A) (rest : List ℕ) (content o1 : List ℕ) → octets ≡ blob32 content ++ o1 → IsBytes content → IsBytes o1 → length content < 2 ^ 32 → (r : Option A) → whole (read content) ≡ r → (r >>= λ y. answer y o1) ≡ Some (x, rest)
+    by : (octets : List ℕ) (x : A) (rest : List ℕ) (content o1 : List ℕ) → octets ≡ blob32 content
+        ++ o1 → IsBytes content → IsBytes o1 → length content < 2 ^ 32 → (r : Option A)
+        → whole (read content) ≡ r → (r >>= λ y. answer y o1) ≡ Some (x, rest)
         → Takes octets (blob32 (encode x)) rest × (Fit x × (length (encode x) < 2 ^ 32))
     by octets x rest content o1 e0 inner more short None e h = absurd (cc h)
     by octets x rest content o1 e0 inner more short (Some y) e h =
         let t = whole_takes part content y inner e in
         made (λ x. blob32 (encode x)) (λ x. Fit x × (length (encode x) < 2 ^ 32)) octets o1 y x rest h (e0 ∙ ap (λ l. blob32 l ++ o1) t.1) more (t.0, subst (λ l. length l < 2 ^ 32) t.1 short)
 
-    takes : (octets : List ℕ) (x : A) (rest : List ℕ) → IsBytes octets → (blob32_at octets >>= λ b. whole (read b.0) >>= λ y. answer y b.1) ≡ Some (x, rest) → Takes octets (blob32 (encode x)) rest × (Fit x × (length (encode x) < 2 ^ 32))
+    takes : (octets : List ℕ) (x : A) (rest : List ℕ) → IsBytes octets
+        → (blob32_at octets >>= λ b. whole (read b.0) >>= λ y. answer y b.1) ≡ Some (x, rest)
+        → Takes octets (blob32 (encode x)) rest × (Fit x × (length (encode x) < 2 ^ 32))
     takes octets x rest bytes is =
         step blob32_part octets (λ b. whole (read b.0) >>= λ y. answer y b.1) (x, rest) bytes is
         (λ content o1 e0 b1 f0 h0. by octets x rest content o1 e0 (front_bytes content o1 (IsBytes-drop 4 (blob32 content ++ o1) (subst IsBytes e0 bytes))) b1 f0 (whole (read content)) refl h0)
@@ -71,7 +78,9 @@ pub optional_part : {A : Type 0} {encode : A → List ℕ} {Fit : A → Type 0} 
 unfolding optional_at
 optional_part {A} {encode} {Fit} {read} part true = record { takes = takes; again = again }
   where
-    takes : (octets : List ℕ) (x : Option A) (rest : List ℕ) → IsBytes octets → (read octets >>= λ y. answer (Some y.0) y.1) ≡ Some (x, rest) → Takes octets (optional encode x) rest × (IfSome x Fit × (is_some x ≡ true))
+    takes : (octets : List ℕ) (x : Option A) (rest : List ℕ) → IsBytes octets
+        → (read octets >>= λ y. answer (Some y.0) y.1) ≡ Some (x, rest)
+        → Takes octets (optional encode x) rest × (IfSome x Fit × (is_some x ≡ true))
     takes octets x rest bytes is =
         step part octets (λ y. answer (Some y.0) y.1) (x, rest) bytes is
         (λ y after first more fit e. made {A = Option A} (optional encode) (λ x. IfSome x Fit × (is_some x ≡ true)) octets after (Some y) x rest e first more (fit, refl))
@@ -88,7 +97,9 @@ optional_part {A} {encode} {Fit} {read} part false = record { takes = takes; aga
     again None rest fit = refl
     again (Some y) rest fit = absurd (cc fit.1)
 
-one_more : {A : Type 0} {encode : A → List ℕ} {Fit : A → Type 0} {read : Reader A} (part : Part encode Fit read) (octets : List ℕ) (xs : List A) (rest : List ℕ) (n : ℕ) (x : A) (after : List ℕ) → octets ≡ encode x ++ after → Fit x → (r : Option (List A × List ℕ))
+one_more : {A : Type 0} {encode : A → List ℕ} {Fit : A → Type 0} {read : Reader A}
+    (part : Part encode Fit read) (octets : List ℕ) (xs : List A) (rest : List ℕ) (n : ℕ) (x : A)
+    (after : List ℕ) → octets ≡ encode x ++ after → Fit x → (r : Option (List A × List ℕ))
     → ((ys : List A) (end : List ℕ) → r ≡ Some (ys, end) → Takes after (flat_map encode ys) end × (AllByRecursion Fit ys × (length ys ≡ n)))
     → (r >>= λ others. answer (x ∷ others.0) others.1) ≡ Some (xs, rest) → Takes octets (flat_map encode xs) rest × (AllByRecursion Fit xs × (length xs ≡ suc n))
 one_more part octets xs rest n x after first fit None go e = absurd (cc e)
@@ -98,14 +109,19 @@ one_more {A} {encode} {Fit} part octets xs rest n x after first fit (Some ys) go
     (first ∙ ap (λ l. encode x ++ l) t.0.is ∙ sym (append_assoc (encode x) (flat_map encode ys.0) ys.1) ∙ ap (λ l. l ++ ys.1) (sym (flat_map-cons encode x ys.0)))
     t.0.more ((fit, t.1.0), ap suc t.1.1)
 
-many_takes : {A : Type 0} {encode : A → List ℕ} {Fit : A → Type 0} {read : Reader A} (part : Part encode Fit read) (n : ℕ) (octets : List ℕ) (xs : List A) (rest : List ℕ) → IsBytes octets → many_at read n octets ≡ Some (xs, rest) → Takes octets (flat_map encode xs) rest × (AllByRecursion Fit xs × (length xs ≡ n))
+many_takes : {A : Type 0} {encode : A → List ℕ} {Fit : A → Type 0} {read : Reader A}
+    (part : Part encode Fit read) (n : ℕ) (octets : List ℕ) (xs : List A) (rest : List ℕ)
+    → IsBytes octets → many_at read n octets ≡ Some (xs, rest)
+    → Takes octets (flat_map encode xs) rest × (AllByRecursion Fit xs × (length xs ≡ n))
 unfolding many_at
 many_takes {A} {encode} {Fit} part zero octets xs rest bytes is = made {A = List A} (flat_map encode) (λ xs. AllByRecursion Fit xs × (length xs ≡ 0)) octets octets [] xs rest is refl bytes (tt, refl)
 many_takes {read = read} part (suc n) octets xs rest bytes is =
     step part octets (λ first. many_at read n first.1 >>= λ others. answer (first.0 ∷ others.0) others.1) (xs, rest) bytes is
     (λ x after first more fit e. one_more part octets xs rest n x after first fit (many_at read n after) (λ ys end h. many_takes part n after ys end more h) e)
 
-many_again : {A : Type 0} {encode : A → List ℕ} {Fit : A → Type 0} {read : Reader A} (part : Part encode Fit read) (xs : List A) (rest : List ℕ) → AllByRecursion Fit xs → many_at read (length xs) (flat_map encode xs ++ rest) ≡ Some (xs, rest)
+many_again : {A : Type 0} {encode : A → List ℕ} {Fit : A → Type 0} {read : Reader A}
+    (part : Part encode Fit read) (xs : List A) (rest : List ℕ) → AllByRecursion Fit xs
+    → many_at read (length xs) (flat_map encode xs ++ rest) ≡ Some (xs, rest)
 unfolding many_at
 many_again part [] rest fit = refl
 many_again {encode = encode} {read = read} part (x ∷ xs) rest fit =
@@ -120,6 +136,8 @@ many_part {encode = encode} {read = read} part n = record {
 }
 
 -- a number, and that many items
-pub counted_part : {A : Type 0} {count : ℕ → List ℕ} {FitCount : ℕ → Type 0} {number : Reader ℕ} {encode : A → List ℕ} {Fit : A → Type 0} {item : Reader A} → Part count FitCount number → Part encode Fit item
+pub counted_part : {A : Type 0} {count : ℕ → List ℕ} {FitCount : ℕ → Type 0} {number : Reader ℕ}
+    {encode : A → List ℕ} {Fit : A → Type 0} {item : Reader A} → Part count FitCount number
+    → Part encode Fit item
     → Part (λ xs. count (length xs) ++ flat_map encode xs) (λ xs. FitCount (length xs) × AllByRecursion Fit xs) (number then many_at item)
 counted_part number item = then_part number length (λ n fit. many_part item n)

@@ -17,7 +17,9 @@ pub goes_on : {A : Type 0} (item : Reader A) (front : List A) (count i : ℕ) (o
 unfolding many_at
 goes_on item front count i octets x after total lt h so_far =
     let k : count - i ≡ suc (count - (i + 1)) = omega arith in
-    let one : with_front front (many_at item (count - i) octets) ≡ with_front (front ++ x ∷ []) (many_at item (count - (i + 1)) after) = rw (k, h) (regroup front x (many_at item (count - (i + 1)) after)) in
+    let one : with_front front (many_at item (count - i) octets) ≡ with_front (front ++ x ∷ [])
+    (many_at item (count - (i + 1)) after) =
+    rw (k, h) (regroup front x (many_at item (count - (i + 1)) after)) in
     sym one ∙ so_far
 
 pub ends : {A : Type 0} (item : Reader A) (e : ReadFault) (front : List A) (count i : ℕ) (octets : List ℕ) (total : Option (List A × List ℕ)) → i < count → Fails e (item octets)
@@ -29,7 +31,9 @@ ends item faults.Form front count i octets total lt h so_far =
     let one : with_front front (many_at item (count - i) octets) ≡ None = rw (k, h) refl in
     sym so_far ∙ one
 
-pub is_done : {A : Type 0} (item : Reader A) (front : List A) (count i : ℕ) (octets : List ℕ) (total : Option (List A × List ℕ)) → count ≤ i → with_front front (many_at item (count - i) octets) ≡ total → total ≡ Some (front, octets)
+pub is_done : {A : Type 0} (item : Reader A) (front : List A) (count i : ℕ) (octets : List ℕ)
+    (total : Option (List A × List ℕ)) → count ≤ i
+    → with_front front (many_at item (count - i) octets) ≡ total → total ≡ Some (front, octets)
 unfolding many_at
 is_done {A} item front count i octets total le so_far =
     let k : count - i ≡ 0 = omega arith in

@@ -68,8 +68,18 @@ number_part w limit wide = record { takes = takes; again = again }
         let long : byte_len w ≤ length octets = ltb-false _ _ enough in
         let n-is : from_be_bytes w (take (byte_len w) octets) ≡ n = ap (λ (p : ℕ × List ℕ). p.0) e in
         let rest-is : drop (byte_len w) octets ≡ rest = ap (λ (p : ℕ × List ℕ). p.1) e in
-        let front : to_be_bytes w n ≡ take (byte_len w) octets = rw (← n-is) (wide.back (take (byte_len w) octets) (omega (arith, length-take (byte_len w) octets)) (IsBytes-take (byte_len w) octets bytes)) in
-        (record { is = rw (front, ← rest-is) (sym (take-append-drop (byte_len w) octets)); more = rw (← rest-is) (IsBytes-drop (byte_len w) octets bytes) }, rw (← n-is) (wide.below (take (byte_len w) octets) (IsBytes-take (byte_len w) octets bytes))))
+        let front : to_be_bytes w n ≡ take (byte_len w) octets =
+        rw (← n-is) (wide.back (take (byte_len w) octets)
+        (omega (arith, length-take (byte_len w) octets))
+        (IsBytes-take (byte_len w) octets bytes)) in (
+          record {
+            is = rw (front, ← rest-is) (sym (take-append-drop (byte_len w) octets));
+            more =
+                rw (← rest-is) (IsBytes-drop (byte_len w) octets bytes);
+          },
+          rw (← n-is)
+              (wide.below (take (byte_len w) octets) (IsBytes-take (byte_len w) octets bytes)),
+        ))
 
     again : (n : ℕ) (rest : List ℕ) → n < limit → number_at w (to_be_bytes w n ++ rest) ≡ Some (n, rest)
     again n rest lt =

@@ -2,7 +2,7 @@
 use Rattle.std.proofs.Common.{◌≡◌, ℕ, ◌<◌, ◌==◌, Bool, true, false, cond, eqb, List, [], ◌∷◌, ◌++◌, length, Option, Some, None, refl, sym, ap, subst, ◌∙◌, append_assoc, arith}
 use Rattle.std.specs.List.{AllByRecursion}
 use Rattle.std.proofs.lemmas.Bool.{eqb-true}
-use Rattle.ts_codec.specs.Reading.{Reader, ◌>>=◌, provided, lookup, ◌that◌, ◌and◌, ◌then◌, ◌into◌, bare, octet_at, of_kind, by_kind, code_at}
+use Rattle.ts_codec.specs.Reading.{Reader, ◌>>=◌, value_if, lookup, ◌that◌, ◌and◌, ◌then◌, ◌into◌, bare, octet_at, of_kind, by_kind, code_at}
 use Rattle.ts_codec.proofs.Laws.{IsBytes, Takes, Part, answer, step, provided_is, some_is, made}
 use Rattle.ts_codec.proofs.Numbers.{octet_part}
 
@@ -14,15 +14,17 @@ that_part {A} {encode} {Fit} {read} part holds = record { takes = takes; again =
   where
     takes : (octets : List ℕ) (x : A) (rest : List ℕ) → IsBytes octets → (read that holds) octets ≡ Some (x, rest) → Takes octets (encode x) rest × (Fit x × (holds x ≡ true))
     takes octets x rest bytes is =
-        step part octets (λ y. provided (holds y.0) y) (x, rest) bytes is
+        step part octets (λ y. value_if (holds y.0) y) (x, rest) bytes is
         (λ y after first more fit e. provided_is (holds y) (y, after) (x, rest) e
         (λ good same. subst (λ (p : A × List ℕ). Takes octets (encode p.0) p.1 × (Fit p.0 × (holds p.0 ≡ true))) same (record { is = first; more = more }, (fit, good))))
 
     again : (x : A) (rest : List ℕ) → Fit x × (holds x ≡ true) → (read that holds) (encode x ++ rest) ≡ Some (x, rest)
-    again x rest fit = ap (λ r. r >>= λ y. provided (holds y.0) y) (part.again x rest fit.0) ∙ rw fit.1 refl
+    again x rest fit = ap (λ r. r >>= λ y. value_if (holds y.0) y) (part.again x rest fit.0) ∙ rw fit.1 refl
 
 -- the same values, named otherwise
-pub fitting : {A : Type 0} {encode : A → List ℕ} {Fit : A → Type 0} {read : Reader A} → Part encode Fit read → (Other : A → Type 0) → ((x : A) → Fit x → Other x) → ((x : A) → Other x → Fit x) → Part encode Other read
+pub fitting : {A : Type 0} {encode : A → List ℕ} {Fit : A → Type 0} {read : Reader A}
+    → Part encode Fit read → (Other : A → Type 0) → ((x : A) → Fit x → Other x)
+    → ((x : A) → Other x → Fit x) → Part encode Other read
 fitting part Other to from = record {
   takes = λ octets x rest bytes is. let t = part.takes octets x rest bytes is in (t.0, to x t.1);
   again = λ x rest fit. part.again x rest (from x fit);
@@ -36,7 +38,9 @@ recoded {encode = encode} {Fit = Fit} {read = read} part other same = record {
 }
 
 -- a test that no value fails which has no octets
-pub test_part : {A : Type 0} {encode : A → List ℕ} {Fit : A → Type 0} {read : Reader A} → Part encode Fit read → (holds : A → Bool) → ((x : A) → holds x ≡ true → Fit x) → Part encode (λ x. holds x ≡ true) (read that holds)
+pub test_part : {A : Type 0} {encode : A → List ℕ} {Fit : A → Type 0} {read : Reader A}
+    → Part encode Fit read → (holds : A → Bool) → ((x : A) → holds x ≡ true → Fit x)
+    → Part encode (λ x. holds x ≡ true) (read that holds)
 test_part part holds enough = fitting (that_part part holds) (λ x. holds x ≡ true) (λ x fit. fit.1) (λ x good. (enough x good, good))
 
 -- ---- a part, and others
@@ -87,7 +91,9 @@ pub record Made {A B : Type 0} (encode_parts : A → List ℕ) (PartsFit : A →
   pub fits : (a : A) → PartsFit a → Fit (make a)
   pub octets : (a : A) → PartsFit a → encode (make a) ≡ encode_parts a
 
-pub into_part : {A B : Type 0} {ea : A → List ℕ} {FitA : A → Type 0} {ra : Reader A} (part : Part ea FitA ra) (make : A → B) {encode : B → List ℕ} {Fit : B → Type 0} → Made ea FitA make encode Fit → Part encode Fit (ra into make)
+pub into_part : {A B : Type 0} {ea : A → List ℕ} {FitA : A → Type 0} {ra : Reader A}
+    (part : Part ea FitA ra) (make : A → B) {encode : B → List ℕ} {Fit : B → Type 0}
+    → Made ea FitA make encode Fit → Part encode Fit (ra into make)
 into_part {A} {B} {ea} {FitA} {ra} part make {encode} {Fit} m = record { takes = takes; again = again }
   where
     takes : (octets : List ℕ) (b : B) (rest : List ℕ) → IsBytes octets → (ra into make) octets ≡ Some (b, rest) → Takes octets (encode b) rest × Fit b
@@ -104,7 +110,9 @@ into_part {A} {B} {ea} {FitA} {ra} part make {encode} {Fit} m = record { takes =
         ∙ ap (λ x. answer x rest) same
 
 -- a value is read again from its parts
-pub parts_again : {A B : Type 0} {ea : A → List ℕ} {FitA : A → Type 0} {ra : Reader A} (part : Part ea FitA ra) (make : A → B) (a : A) (rest : List ℕ) → FitA a → (ra into make) (ea a ++ rest) ≡ Some (make a, rest)
+pub parts_again : {A B : Type 0} {ea : A → List ℕ} {FitA : A → Type 0} {ra : Reader A}
+    (part : Part ea FitA ra) (make : A → B) (a : A) (rest : List ℕ) → FitA a
+    → (ra into make) (ea a ++ rest) ≡ Some (make a, rest)
 parts_again part make a rest fit = ap (λ r. r >>= λ a. answer (make a.0) a.1) (part.again a rest fit)
 
 -- ---- kinds
@@ -144,7 +152,9 @@ lookup_found n (row ∷ rows) x P is all =
     (λ e. lookup_found n rows x P e all.1)
 
 -- a step of a reading of which no octets are read
-pub look : {A B P : Type 0} (n : ℕ) (rows : List (ℕ × A)) (Q : ℕ → A → Type 0) (f : A → Option B) (y : B) → AllByRecursion (λ row. Q row.0 row.1) rows → (lookup n rows >>= f) ≡ Some y → ((x : A) → Q n x → f x ≡ Some y → P) → P
+pub look : {A B P : Type 0} (n : ℕ) (rows : List (ℕ × A)) (Q : ℕ → A → Type 0) (f : A → Option B)
+    (y : B) → AllByRecursion (λ row. Q row.0 row.1) rows → (lookup n rows >>= f) ≡ Some y
+    → ((x : A) → Q n x → f x ≡ Some y → P) → P
 look {A} {B} {P} n rows Q f y all is go = by (lookup n rows) refl is
   where
     by : (r : Option A) → lookup n rows ≡ r → (r >>= f) ≡ Some y → P
@@ -162,7 +172,9 @@ pub record Kinds {B : Type 0} (kind_of : B → ℕ) (encode : B → List ℕ) (F
   pub again : (b : B) (rest : List ℕ) → Fit b → (lookup (kind_of b) rows >>= λ fields. fields (encode b ++ rest)) ≡ Some (b, rest)
 
 -- the fields of one kind
-pub fields_part : {B : Type 0} {kind_of : B → ℕ} {encode : B → List ℕ} {Fit : B → Type 0} {rows : List (ℕ × Reader B)} → Kinds kind_of encode Fit rows → (kind : ℕ) → Part encode (λ b. Fit b × (kind_of b ≡ kind)) (of_kind rows kind)
+pub fields_part : {B : Type 0} {kind_of : B → ℕ} {encode : B → List ℕ} {Fit : B → Type 0}
+    {rows : List (ℕ × Reader B)} → Kinds kind_of encode Fit rows → (kind : ℕ)
+    → Part encode (λ b. Fit b × (kind_of b ≡ kind)) (of_kind rows kind)
 unfolding of_kind
 fields_part {B} {kind_of} {encode} {Fit} {rows} kinds kind = record {
   takes = λ octets b rest bytes is. look kind rows (Case kind_of encode Fit) (λ fields. fields octets) (b, rest) kinds.cases is (λ read row e. row.takes octets b rest bytes e);
@@ -170,7 +182,9 @@ fields_part {B} {kind_of} {encode} {Fit} {rows} kinds kind = record {
 }
 
 -- an octet of the kind, and its fields
-pub kind_part : {B : Type 0} {kind_of : B → ℕ} {encode : B → List ℕ} {Fit : B → Type 0} {rows : List (ℕ × Reader B)} → Kinds kind_of encode Fit rows → Part (λ b. kind_of b ∷ encode b) Fit (by_kind rows)
+pub kind_part : {B : Type 0} {kind_of : B → ℕ} {encode : B → List ℕ} {Fit : B → Type 0}
+    {rows : List (ℕ × Reader B)} → Kinds kind_of encode Fit rows
+    → Part (λ b. kind_of b ∷ encode b) Fit (by_kind rows)
 kind_part {B} {kind_of} {encode} {Fit} {rows} kinds = record { takes = takes; again = λ b rest fit. (fields_part kinds (kind_of b)).again b rest (fit, refl) }
   where
     takes : (octets : List ℕ) (b : B) (rest : List ℕ) → IsBytes octets → by_kind rows octets ≡ Some (b, rest) → Takes octets (kind_of b ∷ encode b) rest × Fit b
@@ -181,11 +195,16 @@ kind_part {B} {kind_of} {encode} {Fit} {rows} kinds = record { takes = takes; ag
         (record { is = e0 ∙ ap (λ l. k ∷ l) t.0.is ∙ ap (λ n. n ∷ (encode b ++ rest)) (sym t.1.1); more = t.0.more }, t.1.0))
 
 -- an octet that stands for a value
-pub code_part : {A : Type 0} (code_of : A → ℕ) (values : List (ℕ × A)) → AllByRecursion (λ row. code_of row.1 ≡ row.0) values → ((x : A) → lookup (code_of x) values ≡ Some x) → Part (λ x. code_of x ∷ []) (λ x. Unit {0}) (code_at values)
+pub code_part : {A : Type 0} (code_of : A → ℕ) (values : List (ℕ × A))
+    → AllByRecursion (λ row. code_of row.1 ≡ row.0) values
+    → ((x : A) → lookup (code_of x) values ≡ Some x)
+    → Part (λ x. code_of x ∷ []) (λ x. Unit {0}) (code_at values)
 unfolding code_at
 code_part {A} code_of values are each = record { takes = takes; again = λ x rest fit. ap (λ r. r >>= λ y. answer y rest) (each x) }
   where
-    takes : (octets : List ℕ) (x : A) (rest : List ℕ) → IsBytes octets → (octet_at octets >>= λ code. lookup code.0 values >>= λ y. answer y code.1) ≡ Some (x, rest) → Takes octets (code_of x ∷ []) rest × Unit {0}
+    takes : (octets : List ℕ) (x : A) (rest : List ℕ) → IsBytes octets
+        → (octet_at octets >>= λ code. lookup code.0 values >>= λ y. answer y code.1) ≡ Some
+        (x, rest) → Takes octets (code_of x ∷ []) rest × Unit {0}
     takes octets x rest bytes is =
         step octet_part octets (λ code. lookup code.0 values >>= λ y. answer y code.1) (x, rest) bytes is
         (λ code o1 e0 b1 f0 h0. look code values (λ n y. code_of y ≡ n) (λ y. answer y o1) (x, rest) are h0

@@ -4,7 +4,7 @@ use Rattle.std.specs.Prelude.{◌≡◌, ◌==◌, ℕ, ℤ, zero, suc, Bool, Li
 use Rattle.std.specs.Prelude.{Option, Some, None, Result, Ok, Err, nat_lt, if◌then◌else◌}
 use Rattle.std.specs.Int.{Width, w16, w32, w64, byte_len, from_be_bytes, cast_signed}
 use Rattle.ts_der.specs.ObjectIdentifier.{is_oid}
-use Rattle.ts_codec.specs.Ranges.{is_node, is_position, is_prefix, is_ballot, is_short}
+use Rattle.ts_codec.specs.Ranges.{is_node_number, is_position, is_prefix, is_ballot, is_short}
 use Rattle.ts_codec.specs.declared.fault.ReadFault.{ReadFault}
 use Rattle.ts_codec.specs.declared.fault.ReadFault.TheVariants as faults
 
@@ -28,8 +28,8 @@ Gives view (Ok x) reading = reading ≡ Some (view x)
 Gives view (Err e) reading = Fails e reading
 
 -- a value where a test of it holds
-abbrev pub provided : {A : Type 0} → Bool → A → Option A
-provided holds x = if holds then Some x else None
+abbrev pub value_if : {A : Type 0} → Bool → A → Option A
+value_if holds x = if holds then Some x else None
 
 -- what a table has at a number
 abbrev pub lookup : {A : Type 0} → ℕ → List (ℕ × A) → Option A
@@ -38,14 +38,14 @@ lookup n (row ∷ rows) = if n == row.0 then Some row.1 else lookup n rows
 
 -- all of the octets
 abbrev pub whole : {A : Type 0} → Option (A × List ℕ) → Option A
-whole reading = reading >>= λ x. provided (length x.1 == 0) x.0
+whole reading = reading >>= λ x. value_if (length x.1 == 0) x.0
 
 -- ---- rows of parts
 
 -- a part whose value meets a test
 infixl 40 ◌that◌
 abbrev pub ◌that◌ : {A : Type 0} → Reader A → (A → Bool) → Reader A
-(part that holds) octets = part octets >>= λ x. provided (holds x.0) x
+(part that holds) octets = part octets >>= λ x. value_if (holds x.0) x
 
 -- a part, and then others
 infixr 30 ◌and◌
@@ -101,7 +101,7 @@ unfoldable pub oid_at : Reader (List ℕ)
 oid_at = blob8_at that is_oid
 
 unfoldable pub node_at : Reader ℕ
-node_at = octet_at that is_node
+node_at = octet_at that is_node_number
 
 unfoldable pub position_at : Reader ℕ
 position_at = number_at w32 that is_position
@@ -121,8 +121,8 @@ unfoldable pub tag_at : ℕ → Reader ℕ
 tag_at tag = octet_at that (λ o. o == tag)
 
 -- a part after an octet that is always this one
-abbrev pub marked : {A : Type 0} → ℕ → Reader A → Reader A
-marked tag part = tag_at tag then (λ o. part)
+abbrev pub behind_mark : {A : Type 0} → ℕ → Reader A → Reader A
+behind_mark tag part = tag_at tag then (λ o. part)
 
 -- ---- parts that may be absent, and lists
 

@@ -33,7 +33,8 @@
 //! parts make up. An enum is a table of rows, with a line for each kind.
 //!
 //! Lists: `number then many_at item` (`counted_part`); a part that a flag announces: `optional_at`;
-//! a value that is all of a blob: `within_blob_at`; an octet that is always the same: `marked`.
+//! a value that is all of a blob: `within_blob_at`; an octet that is always the same:
+//! `behind_mark`.
 //!
 //! # In a crate
 //!

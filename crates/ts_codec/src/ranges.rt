@@ -1,14 +1,14 @@
 //! The ranges of the numbers that several formats have.
 
 ghost use Rattle.std.specs.Prelude.{◌≡◌};
-ghost use Rattle.ts_codec.specs.Ranges.{is_node, is_position, is_prefix, is_ballot};
+ghost use Rattle.ts_codec.specs.Ranges.{is_node_number, is_position, is_prefix, is_ballot};
 
 /// The last position of a log, and the most commands that a store has taken.
 pub const MAX_POSITION: u32 = 1_000_000;
 
 /// Whether a number is that of a node: 1 to 9.
 pub(crate) fn is_node(number: u8) -> bool
-    ensures { result ≡ is_node number }
+    ensures { result ≡ is_node_number number }
 {
     1 <= number && number <= 9
 }

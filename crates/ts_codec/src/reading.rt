@@ -63,7 +63,7 @@ pub fn number64(octets: &[u8]) -> Result<(u64, &[u8]), ReadFault>
 
 /// Eight octets as a signed number.
 #[tactic(auto, unfolding(crate::specs::Reading::signed_at))]
-pub fn signed(octets: &[u8]) -> Result<(i64, &[u8]), ReadFault>
+pub fn signed_number(octets: &[u8]) -> Result<(i64, &[u8]), ReadFault>
     ensures { Gives (λ x. (x.0, x.1.now)) result (signed_at octets.now) }
 {
     let (number, rest) = number64(octets)?;

@@ -1,7 +1,7 @@
 -- The octets of texts from their ends on.
 use Rattle.std.proofs.Common.{◌≡◌, ℕ, suc, ◌+◌, ◌-◌, ◌<◌, ◌≤◌, Bool, true, false, cond, List, [], ◌∷◌, ◌++◌, length, take, get_or, refl, sym, ap, ◌∙◌, arith}
 use Rattle.std.specs.Char.{to_ascii_lowercase}
-use Rattle.ts_constraint.specs.Ending.{backwards}
+use Rattle.ts_constraint.specs.inside.Ending.{backwards}
 
 pub empty-dotted : (text : List ℕ) (dotted : Bool) → length text < 1 → dotted ≡ true → backwards text dotted ≡ 46 ∷ backwards text false
 empty-dotted [] dotted h e = ap (backwards []) e

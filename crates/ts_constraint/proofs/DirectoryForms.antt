@@ -14,8 +14,8 @@ use Rattle.ts_name.specs.Canon.{Attr, CanonAttr, compare_attrs}
 use Rattle.ts_name.specs.CanonView.{attr_in, attrs_in, rdns_in as canon_in}
 use Rattle.ts_name.specs.Sameness.{canon_name, IsWithin}
 use Rattle.ts_name.proofs.Order.{total, one_if_same}
-use Rattle.ts_constraint.specs.Directory.{compare_rdns}
-use Rattle.ts_constraint.specs.Fronts.{front_cmp, is_front}
+use Rattle.ts_constraint.specs.inside.Directory.{compare_rdns}
+use Rattle.ts_constraint.specs.inside.Fronts.{front_cmp, is_front}
 use Rattle.ts_constraint.proofs.Fronts.{equal-from, front-of, of-front}
 
 pub rdns-total : IsTotalOrder compare_rdns
@@ -46,7 +46,9 @@ within-front-iff front name = (within front name, begins front name)
 
 -- ---- lists in an order of what they are seen as
 
-pub cmp-map : {X A : Type 0} (f : X → A) (by : X → X → Ordering) (R : A → A → Ordering) → ((x y : X) → by x y ≡ R (f x) (f y)) → (xs ys : List X) → slice_cmp by xs ys ≡ slice_cmp R (map f xs) (map f ys)
+pub cmp-map : {X A : Type 0} (f : X → A) (by : X → X → Ordering) (R : A → A → Ordering)
+    → ((x y : X) → by x y ≡ R (f x) (f y)) → (xs ys : List X)
+    → slice_cmp by xs ys ≡ slice_cmp R (map f xs) (map f ys)
 cmp-map f by R same [] [] = refl
 cmp-map f by R same [] (y ∷ ys) = refl
 cmp-map f by R same (x ∷ xs) [] = refl
@@ -54,7 +56,11 @@ cmp-map f by R same (x ∷ xs) (y ∷ ys) =
     ap (λ (k : Ordering). ordering_then k (slice_cmp by xs ys)) (same x y) ∙ ap (λ (k : Ordering). ordering_then (R (f x) (f y)) k) (cmp-map f by R same xs ys)
 
 -- owned canonical forms are in the order of what they are
-pub canon-order : (a b : Canon) → slice_cmp (λ (x y : CanonRdn). slice_cmp (λ (p q : CanonAttribute). ordering_then (slice_cmp nat_cmp p.kind.items q.kind.items) (ordering_then (nat_cmp p.tag q.tag) (slice_cmp nat_cmp p.value.items q.value.items))) x.attributes.items y.attributes.items) a.rdns.items b.rdns.items
+pub canon-order : (a b : Canon)
+    → slice_cmp (λ (x y : CanonRdn). slice_cmp
+    (λ (p q : CanonAttribute). ordering_then (slice_cmp nat_cmp p.kind.items q.kind.items)
+    (ordering_then (nat_cmp p.tag q.tag) (slice_cmp nat_cmp p.value.items q.value.items)))
+    x.attributes.items y.attributes.items) a.rdns.items b.rdns.items
     ≡ slice_cmp compare_rdns (canon_in a) (canon_in b)
 unfolding compare_attrs
 canon-order a b = cmp-map attrs_in _ compare_rdns (λ x y. cmp-map attr_in _ compare_attrs (λ p q. refl) x.attributes.items y.attributes.items) a.rdns.items b.rdns.items

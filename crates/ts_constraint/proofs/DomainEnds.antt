@@ -1,5 +1,7 @@
 -- Domains as endings of hosts.
-use Rattle.std.proofs.Common.{◌≡◌, ◌↔◌, ℕ, suc, ◌+◌, ◌<◌, Bool, true, false, cond, eqb, List, [], ◌∷◌, ◌++◌, ◌⊎◌, inl, inr, length, refl, sym, ap, subst, ◌∙◌, arith, append-nil, append_assoc, length-append}
+use Rattle.std.proofs.Common.{◌≡◌, ◌↔◌, ℕ, suc, ◌+◌, ◌<◌, Bool, true, false, cond, eqb, List, []}
+use Rattle.std.proofs.Common.{◌∷◌, ◌++◌, ◌⊎◌, inl, inr, length, refl, sym, ap, subst, ◌∙◌, arith}
+use Rattle.std.proofs.Common.{append-nil, append_assoc, length-append}
 use Rattle.std.specs.Prelude.{◌||◌, map, IsTrue, MatchBool}
 use Rattle.std.specs.Char.{to_ascii_lowercase}
 use Rattle.std.specs.List.{flat_map, list_any}
@@ -12,9 +14,9 @@ use Rattle.std.proofs.lemmas.Map.Lookups.{exact_unsigned}
 use Rattle.ts_name.specs.General.{GeneralName, otherName, rfc822Name, dNSName, x400Address, directoryName, ediPartyName, uniformResourceIdentifier, iPAddress, registeredID}
 use Rattle.ts_name.specs.Holds.{lower, dot, EndsIn, IsBelow, IsWithinDomain, Holds}
 use Rattle.ts_constraint.specs.Conditions.{Some_of}
-use Rattle.ts_constraint.specs.Ending.{backwards}
-use Rattle.ts_constraint.specs.Fronts.{front_cmp, is_front, has_front}
-use Rattle.ts_constraint.specs.Hosts.{domain_ending, dotted_ending, domain_endings, dotted_endings, is_at_domain, is_below_dot}
+use Rattle.ts_constraint.specs.inside.Ending.{backwards}
+use Rattle.ts_constraint.specs.inside.Fronts.{front_cmp, is_front, has_front}
+use Rattle.ts_constraint.specs.inside.Hosts.{domain_ending, dotted_ending, domain_endings, dotted_endings, is_at_domain, is_below_dot}
 use Rattle.ts_constraint.proofs.Fronts.{by-key, equal-from, front-of, of-front}
 
 -- ---- a text from its end on
@@ -142,7 +144,9 @@ one-base host base = none host
 
 front-either : (xs ys : List (List ℕ)) (item : List ℕ) → has_front nat_cmp itself (xs ++ ys) item ≡ has_front nat_cmp itself xs item || has_front nat_cmp itself ys item
 front-either [] ys item = refl
-front-either (x ∷ xs) ys item = ap (λ b. is_front nat_cmp x item || b) (front-either xs ys item) ∙ or-assoc (is_front nat_cmp x item) (has_front nat_cmp itself xs item) (has_front nat_cmp itself ys item)
+front-either (x ∷ xs) ys item = ap (λ b. is_front nat_cmp x item || b) (front-either xs ys item)
+    ∙ or-assoc (is_front nat_cmp x item) (has_front nat_cmp itself xs item)
+    (has_front nat_cmp itself ys item)
   where
     or-assoc : (a b c : Bool) → a || (b || c) ≡ (a || b) || c
     or-assoc true b c = refl
@@ -180,7 +184,9 @@ all-bases host (base ∷ bases) =
 abbrev pub IsTable : {X : Type 0} → (X → List ℕ) → List X → List (List ℕ) → Type 0
 IsTable key xs endings = (item : List ℕ) → has_front nat_cmp key xs item ≡ has_front nat_cmp itself endings item
 
-pub table : {X : Type 0} (key : X → List ℕ) (xs gathered : List X) (endings : List (List ℕ)) → ((item : List ℕ) → has_front nat_cmp key xs item ≡ has_front nat_cmp key gathered item) → map key gathered ≡ endings → IsTable key xs endings
+pub table : {X : Type 0} (key : X → List ℕ) (xs gathered : List X) (endings : List (List ℕ))
+    → ((item : List ℕ) → has_front nat_cmp key xs item ≡ has_front nat_cmp key gathered item)
+    → map key gathered ≡ endings → IsTable key xs endings
 table key xs gathered endings same e item = same item ∙ (by-key nat_cmp key gathered item ∙ ap (λ (ks : List (List ℕ)). has_front nat_cmp itself ks item) e)
 
 below-by-table : {X : Type 0} (key : X → List ℕ) (xs : List X) (endings : List (List ℕ)) (host : List ℕ) → IsTable key xs endings → is_below_dot key xs host ≡ is_below_dot itself endings host
@@ -190,4 +196,6 @@ below-by-table key xs endings (x ∷ rest) t = t (backwards rest false)
 pub by-tables : {X : Type 0} (key : X → List ℕ) (xs ys : List X) (bases : List GeneralName) → IsTable key xs (domain_endings bases) → IsTable key ys (dotted_endings bases) → (host : List ℕ)
     → IsTrue (is_at_domain key xs host || is_below_dot key ys host) ↔ Some_of (λ base. Holds base (dNSName host)) bases
 by-tables key xs ys bases t u host =
-    along (ap (λ b. b || is_below_dot key ys host) (t (backwards host true)) ∙ ap (λ b. is_at_domain itself (domain_endings bases) host || b) (below-by-table key ys (dotted_endings bases) host u)) (all-bases host bases)
+    along (ap (λ b. b || is_below_dot key ys host) (t (backwards host true))
+    ∙ ap (λ b. is_at_domain itself (domain_endings bases) host || b)
+    (below-by-table key ys (dotted_endings bases) host u)) (all-bases host bases)

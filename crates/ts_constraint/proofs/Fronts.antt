@@ -1,5 +1,7 @@
 -- Entries of a table that are fronts of what is looked up.
-use Rattle.std.proofs.Common.{◌≡◌, ℕ, suc, ◌+◌, ◌-◌, ◌<◌, ◌≤◌, Bool, true, false, cond, List, [], ◌∷◌, ◌++◌, length, get_or, ltb, zero, refl, sym, ap, subst, ◌∙◌, arith, Ordering, Option, Some, None, Result, Ok, Err}
+use Rattle.std.proofs.Common.{◌≡◌, ℕ, suc, ◌+◌, ◌-◌, ◌<◌, ◌≤◌, Bool, true, false, cond, List, []}
+use Rattle.std.proofs.Common.{◌∷◌, ◌++◌, length, get_or, ltb, zero, refl, sym, ap, subst, ◌∙◌}
+use Rattle.std.proofs.Common.{arith, Ordering, Option, Some, None, Result, Ok, Err}
 use Rattle.std.specs.Prelude.{IsPermutation, ◌||◌, is_ok, map}
 use Rattle.std.specs.List.{list_any, dedup, dedup_from, AllAdjacentBelow, HoldsAt}
 use Rattle.std.specs.List.Sorted.{IsSorted, IsNonDecreasingBy, IsBinarySearchResult, IsPartitionedBy, IsPartitionPoint, IsSearchInRange}
@@ -11,7 +13,7 @@ use Rattle.std.proofs.lemmas.Bool.{false≢true, true≢false, ltb-true, ltb-fal
 use Rattle.std.proofs.lemmas.Cmp.{alike_right, tied_itself, lists_total}
 use Rattle.std.proofs.lemmas.List.Sorted.{IsNonDecreasingBy-from_all_adjacent, list_any-IsPermutation, searchable_from_sorted}
 use Rattle.std.proofs.lemmas.Map.Lookups.{CmpEqualImpliesEq}
-use Rattle.ts_constraint.specs.Fronts.{front_cmp, is_front, has_front, AreApart}
+use Rattle.ts_constraint.specs.inside.Fronts.{front_cmp, is_front, has_front, AreApart}
 
 not_less : Equal ≡ Less → ⊥
 not_less e = true≢false (ap is_eq e)
@@ -56,7 +58,9 @@ front-front {A} {R} o (x ∷ xs) (y ∷ ys) (z ∷ zs) e f = by_first (front-fro
     by_first more a p Greater q e f = absurd (above_equal f)
 
 -- of a front, or of what is below, what is not above the list is not above the front
-pub up_to-front : {A : Type 0} {R : A → A → Ordering} (o : IsTotalOrder R) (xs ys zs : List A) → is_gt (front_cmp R xs ys) ≡ false → is_gt (front_cmp R ys zs) ≡ false → is_gt (front_cmp R xs zs) ≡ false
+pub up_to-front : {A : Type 0} {R : A → A → Ordering} (o : IsTotalOrder R) (xs ys zs : List A)
+    → is_gt (front_cmp R xs ys) ≡ false → is_gt (front_cmp R ys zs) ≡ false
+    → is_gt (front_cmp R xs zs) ≡ false
 up_to-front o [] ys zs e f = refl
 up_to-front o (x ∷ xs) [] zs e f = absurd (true≢false e)
 up_to-front o (x ∷ xs) (y ∷ ys) [] e f = absurd (true≢false f)
@@ -76,7 +80,10 @@ pub by-fronts : {A : Type 0} {R : A → A → Ordering} (o : IsTotalOrder R) (xs
 by-fronts o [] [] = refl
 by-fronts o [] (y ∷ ys) = refl
 by-fronts o (x ∷ xs) [] = refl
-by-fronts {A} {R} o (x ∷ xs) (y ∷ ys) = ap (λ (k : Ordering). ordering_then (ordering_then (R x y) (front_cmp R xs ys)) (ordering_reverse (ordering_then k (front_cmp R ys xs)))) (o.antisymm y x) ∙ by_first (by-fronts o xs ys) (R x y)
+by-fronts {A} {R} o (x ∷ xs) (y ∷ ys) =
+    ap (λ (k : Ordering). ordering_then (ordering_then (R x y) (front_cmp R xs ys))
+    (ordering_reverse (ordering_then k (front_cmp R ys xs)))) (o.antisymm y x)
+    ∙ by_first (by-fronts o xs ys) (R x y)
   where
     by_first : ordering_then (front_cmp R xs ys) (ordering_reverse (front_cmp R ys xs)) ≡ slice_cmp R xs ys → (a : Ordering)
         → ordering_then (ordering_then a (front_cmp R xs ys)) (ordering_reverse (ordering_then (ordering_reverse a) (front_cmp R ys xs))) ≡ ordering_then a (slice_cmp R xs ys)
@@ -114,7 +121,9 @@ front-of exact [] ys e = (ys, refl)
 front-of exact (x ∷ xs) [] e = absurd (above_equal e)
 front-of {A} {R} exact (x ∷ xs) (y ∷ ys) e = by_first (front-of exact xs ys) (R x y) refl e
   where
-    by_first : (front_cmp R xs ys ≡ Equal → (behind : List A) × (ys ≡ xs ++ behind)) → (a : Ordering) → R x y ≡ a → ordering_then a (front_cmp R xs ys) ≡ Equal → (behind : List A) × (y ∷ ys ≡ x ∷ xs ++ behind)
+    by_first : (front_cmp R xs ys ≡ Equal → (behind : List A) × (ys ≡ xs ++ behind))
+        → (a : Ordering) → R x y ≡ a → ordering_then a (front_cmp R xs ys) ≡ Equal
+        → (behind : List A) × (y ∷ ys ≡ x ∷ xs ++ behind)
     by_first more Less p e = absurd (not_less (sym e))
     by_first more Equal p e = let rest = more e in let same = exact x y p in (rest.0, cc)
     by_first more Greater p e = absurd (above_equal e)
@@ -237,7 +246,9 @@ rises a Equal f = ap_index (f refl)
     ap_index : a ≡ Less → ordering_index a ≤ 1
     ap_index e = let n : ordering_index a ≡ 0 = ap ordering_index e in omega arith
 
-rising : {X A : Type 0} {R : A → A → Ordering} (o : IsTotalOrder R) (key : X → List A) (xs : List X) (item : List A) → AreApart R key xs → IsNonDecreasingBy (λ (x : X). ordering_index (front_cmp R (key x) item)) xs
+rising : {X A : Type 0} {R : A → A → Ordering} (o : IsTotalOrder R) (key : X → List A) (xs : List X)
+    (item : List A) → AreApart R key xs
+    → IsNonDecreasingBy (λ (x : X). ordering_index (front_cmp R (key x) item)) xs
 rising {X} {A} {R} o key xs item s =
     IsNonDecreasingBy-from_all_adjacent (λ (x : X). ordering_index (front_cmp R (key x) item)) xs
     (λ k d h. rises _ _ (below-front o (key (get_or xs k d)) (key (get_or xs (k + 1) d)) item (s k d h)))
@@ -278,8 +289,13 @@ dedup-behind : {X A : Type 0} (R : A → A → Ordering) (key : X → List A) (l
 dedup-behind R key last [] = refl
 dedup-behind {X} {A} R key last (x ∷ xs) = by_test (dedup-behind R key last xs) (dedup-behind R key x xs) (is_front R (key last) (key x))
   where
-    by_test : dedup_from (λ x kept. is_front R (key kept) (key x)) last xs ≡ last ∷ pruned R key (Some last) xs → dedup_from (λ x kept. is_front R (key kept) (key x)) x xs ≡ x ∷ pruned R key (Some x) xs → (t : Bool)
-        → cond t (dedup_from (λ x kept. is_front R (key kept) (key x)) last xs) (last ∷ dedup_from (λ x kept. is_front R (key kept) (key x)) x xs) ≡ last ∷ cond t (pruned R key (Some last) xs) (x ∷ pruned R key (Some x) xs)
+    by_test : dedup_from (λ x kept. is_front R (key kept) (key x)) last xs ≡ last
+        ∷ pruned R key (Some last) xs
+        → dedup_from (λ x kept. is_front R (key kept) (key x)) x xs ≡ x ∷ pruned R key (Some x) xs
+        → (t : Bool)
+        → cond t (dedup_from (λ x kept. is_front R (key kept) (key x)) last xs)
+        (last ∷ dedup_from (λ x kept. is_front R (key kept) (key x)) x xs) ≡ last
+        ∷ cond t (pruned R key (Some last) xs) (x ∷ pruned R key (Some x) xs)
     by_test skipped kept true = skipped
     by_test skipped kept false = ap (λ (ys : List X). last ∷ ys) kept
 
@@ -287,11 +303,15 @@ dedup-is : {X A : Type 0} (R : A → A → Ordering) (key : X → List A) (xs : 
 dedup-is R key [] = refl
 dedup-is R key (x ∷ xs) = dedup-behind R key x xs
 
-pub table-apart : {X A : Type 0} {R : A → A → Ordering} (o : IsTotalOrder R) (key : X → List A) (sorted : List X) → IsSorted (λ (a b : X). slice_cmp R (key a) (key b)) sorted → AreApart R key (without_fronted R key sorted)
+pub table-apart : {X A : Type 0} {R : A → A → Ordering} (o : IsTotalOrder R) (key : X → List A)
+    (sorted : List X) → IsSorted (λ (a b : X). slice_cmp R (key a) (key b)) sorted
+    → AreApart R key (without_fronted R key sorted)
 table-apart {X} {A} {R} o key sorted s =
     subst (λ (xs : List X). AreApart R key xs) (sym (dedup-is R key sorted)) (adjacent R key (pruned R key None sorted) (pruned-apart o key sorted (ascend-sorted o key sorted s)))
 
-pub table-same : {X A : Type 0} {R : A → A → Ordering} (o : IsTotalOrder R) (key : X → List A) (xs sorted : List X) (item : List A) → IsPermutation xs sorted → has_front R key (without_fronted R key sorted) item ≡ has_front R key xs item
+pub table-same : {X A : Type 0} {R : A → A → Ordering} (o : IsTotalOrder R) (key : X → List A)
+    (xs sorted : List X) (item : List A) → IsPermutation xs sorted
+    → has_front R key (without_fronted R key sorted) item ≡ has_front R key xs item
 table-same {X} {A} {R} o key xs sorted item p =
     ap (λ (ys : List X). has_front R key ys item) (dedup-is R key sorted) ∙ (pruned-same o key sorted item ∙ sym (list_any-IsPermutation (λ x. is_front R (key x) item) xs sorted p))
 
@@ -330,7 +350,9 @@ apart-sorted {X} {A} {R} o key xs apart k d low high =
     ap is_lt ((lists_total o).antisymm b a) ∙ less-behind (slice_cmp R a b) (front_cmp R a b) (sym (no-front R a b (ap is_eq less))) less
 
 -- the entries up to an item come first
-pub up_to-first : {X A : Type 0} {R : A → A → Ordering} (o : IsTotalOrder R) (key : X → List A) (xs : List X) (item : List A) → AreApart R key xs → IsPartitionedBy (λ (x : X). is_le (slice_cmp R (key x) item)) xs
+pub up_to-first : {X A : Type 0} {R : A → A → Ordering} (o : IsTotalOrder R) (key : X → List A)
+    (xs : List X) (item : List A) → AreApart R key xs
+    → IsPartitionedBy (λ (x : X). is_le (slice_cmp R (key x) item)) xs
 up_to-first {X} {A} {R} o key xs item apart i j d h low e =
     by_index (slice_cmp R (key (get_or xs i d)) item) (slice_cmp R (key (get_or xs j d)) item)
     (searchable_from_sorted (lists_total o) key xs item (apart-sorted o key xs apart) i j d h low) e
@@ -343,7 +365,10 @@ up_to-first {X} {A} {R} o key xs item apart i j d h low e =
     by_index Greater Greater h e = absurd (false≢true e)
 
 -- where the last entry that is up to an item is not its front, none is
-none-front : {X A : Type 0} {R : A → A → Ordering} (o : IsTotalOrder R) (key : X → List A) (xs : List X) (item : List A) (i : ℕ) → AreApart R key xs → IsPartitionPoint (λ (x : X). is_le (slice_cmp R (key x) item) ≡ true) (λ (x : X). is_le (slice_cmp R (key x) item) ≡ false) xs i
+none-front : {X A : Type 0} {R : A → A → Ordering} (o : IsTotalOrder R) (key : X → List A)
+    (xs : List X) (item : List A) (i : ℕ) → AreApart R key xs
+    → IsPartitionPoint (λ (x : X). is_le (slice_cmp R (key x) item) ≡ true)
+    (λ (x : X). is_le (slice_cmp R (key x) item) ≡ false) xs i
     → ((d : X) → 0 < i → is_front R (key (get_or xs (i - 1) d)) item ≡ false) → i ≤ length xs → has_front R key xs item ≡ false
 none-front {X} {A} {R} o key xs item i apart parts last high = any-none (λ (x : X). is_front R (key x) item) xs (λ k d h. by_side k d h (ltb k i) refl)
   where
@@ -366,7 +391,10 @@ none-front {X} {A} {R} o key xs item i apart parts last high = any-none (λ (x :
     by_side k d h false e = above_item k d (ltb-false k i e) h (is_front R (key (get_or xs k d)) item) refl
 
 -- the last entry that is up to an item is its front exactly where one is
-pub by-last : {X A : Type 0} {R : A → A → Ordering} (o : IsTotalOrder R) (key : X → List A) (xs : List X) (item : List A) (i : ℕ) → AreApart R key xs → IsPartitionPoint (λ (x : X). is_le (slice_cmp R (key x) item) ≡ true) (λ (x : X). is_le (slice_cmp R (key x) item) ≡ false) xs i
+pub by-last : {X A : Type 0} {R : A → A → Ordering} (o : IsTotalOrder R) (key : X → List A)
+    (xs : List X) (item : List A) (i : ℕ) → AreApart R key xs
+    → IsPartitionPoint (λ (x : X). is_le (slice_cmp R (key x) item) ≡ true)
+    (λ (x : X). is_le (slice_cmp R (key x) item) ≡ false) xs i
     → i ≤ length xs → 0 < i → (x : X) → ((d : X) → get_or xs (i - 1) d ≡ x) → is_front R (key x) item ≡ has_front R key xs item
 by-last {X} {A} {R} o key xs item i apart parts high low x is = by_test (is_front R (key x) item) refl
   where
@@ -374,7 +402,10 @@ by-last {X} {A} {R} o key xs item i apart parts high low x is = by_test (is_fron
     by_test true e = sym (any-at (λ (x : X). is_front R (key x) item) xs (i - 1) (omega arith) (λ d. ap (λ (y : X). is_front R (key y) item) (is d) ∙ e))
     by_test false e = sym (none-front o key xs item i apart parts (λ d h. ap (λ (y : X). is_front R (key y) item) (is d) ∙ e) high)
 
-pub none-up_to : {X A : Type 0} {R : A → A → Ordering} (o : IsTotalOrder R) (key : X → List A) (xs : List X) (item : List A) (i : ℕ) → AreApart R key xs → IsPartitionPoint (λ (x : X). is_le (slice_cmp R (key x) item) ≡ true) (λ (x : X). is_le (slice_cmp R (key x) item) ≡ false) xs i
+pub none-up_to : {X A : Type 0} {R : A → A → Ordering} (o : IsTotalOrder R) (key : X → List A)
+    (xs : List X) (item : List A) (i : ℕ) → AreApart R key xs
+    → IsPartitionPoint (λ (x : X). is_le (slice_cmp R (key x) item) ≡ true)
+    (λ (x : X). is_le (slice_cmp R (key x) item) ≡ false) xs i
     → i ≡ 0 → false ≡ has_front R key xs item
 none-up_to o key xs item i apart parts e = sym (none-front o key xs item i apart parts (λ d h. absurd (omega arith)) (omega arith))
 

@@ -5,7 +5,7 @@ use Rattle.std.proofs.lemmas.List.{append_assoc}
 use Rattle.ts_name.specs.General.{GeneralName}
 use Rattle.ts_constraint.specs.declared.form.Form.{Form}
 use Rattle.ts_constraint.specs.declared.condition.Condition.{Condition}
-use Rattle.ts_constraint.specs.Conditions.{Some_of, None_of, Fails, Meets, FailsFirst, IsFirst}
+use Rattle.ts_constraint.specs.Conditions.{Some_of, None_of, NameFails, EachNameMeets, FirstNameFails, IsFirstForm}
 use Rattle.ts_constraint.specs.Names.{form_of}
 use Rattle.ts_constraint.specs.Source.{Source}
 
@@ -40,21 +40,21 @@ none-append P (x ∷ xs) ys none more = (none.0, none-append P xs ys none.1 more
 -- ---- the first name
 
 -- where the names before meet the condition
-pub first-after : (c : Condition) (sources : List Source) (xs ys : List GeneralName) (r : Option Form) → Meets c sources xs → IsFirst c sources ys r → IsFirst c sources (xs ++ ys) r
-first-after c sources xs ys None meet first = none-append (Fails c sources) xs ys meet first
+pub first-after : (c : Condition) (sources : List Source) (xs ys : List GeneralName) (r : Option Form) → EachNameMeets c sources xs → IsFirstForm c sources ys r → IsFirstForm c sources (xs ++ ys) r
+first-after c sources xs ys None meet first = none-append (NameFails c sources) xs ys meet first
 first-after c sources xs ys (Some form) meet first =
     record {
       before = xs ++ first.before;
       name = first.name;
       rest = first.rest;
       names_are = ap (λ (zs : List GeneralName). xs ++ zs) first.names_are ∙ sym (append_assoc xs first.before (first.name ∷ first.rest));
-      meet = none-append (Fails c sources) xs first.before meet first.meet;
+      meet = none-append (NameFails c sources) xs first.before meet first.meet;
       fails = first.fails;
       form_is = first.form_is;
     }
 
 -- where it is among the names before
-pub first-before : (c : Condition) (sources : List Source) (xs ys : List GeneralName) (form : Form) → FailsFirst c sources xs form → FailsFirst c sources (xs ++ ys) form
+pub first-before : (c : Condition) (sources : List Source) (xs ys : List GeneralName) (form : Form) → FirstNameFails c sources xs form → FirstNameFails c sources (xs ++ ys) form
 first-before c sources xs ys form first =
     record {
       before = first.before;
@@ -68,12 +68,14 @@ first-before c sources xs ys form first =
 
 -- the name after others that meet the condition
 pub first-here : (c : Condition) (sources : List Source) (names front rest : List GeneralName) (name : GeneralName) → names ≡ front ++ name ∷ rest
-    → Meets c sources front → Fails c sources name → FailsFirst c sources names (form_of name)
+    → EachNameMeets c sources front → NameFails c sources name → FirstNameFails c sources names (form_of name)
 first-here c sources names front rest name e meet fails = record { before = front; name = name; rest = rest; names_are = e; meet = meet; fails = fails; form_is = refl }
 
 -- one name more that meets it
-pub meets-more : (c : Condition) (sources : List Source) (front : List GeneralName) (name : GeneralName) → Meets c sources front → (Fails c sources name → ⊥) → Meets c sources (front ++ name ∷ [])
-meets-more c sources front name meet not = none-append (Fails c sources) front (name ∷ []) meet (not, tt)
+pub meets-more : (c : Condition) (sources : List Source) (front : List GeneralName)
+    (name : GeneralName) → EachNameMeets c sources front → (NameFails c sources name → ⊥)
+    → EachNameMeets c sources (front ++ name ∷ [])
+meets-more c sources front name meet not = none-append (NameFails c sources) front (name ∷ []) meet (not, tt)
 
 -- ---- what a list of subtrees says, of names and forms that are equal
 

@@ -1,5 +1,8 @@
 -- Addresses as numbers, and their bits under a mask.
-use Rattle.std.proofs.Common.{◌≡◌, ◌↔◌, ℕ, zero, suc, ◌+◌, ◌-◌, ◌*◌, ◌^◌, ◌<◌, ◌≤◌, Bool, true, false, ltb, eqb, List, [], ◌∷◌, length, take, drop, get_or, refl, sym, ap, ◌∙◌, arith, length-take, length-take-le, length-drop, get_or-take, get_or-drop, add-one}
+use Rattle.std.proofs.Common.{◌≡◌, ◌↔◌, ℕ, zero, suc, ◌+◌, ◌-◌, ◌*◌, ◌^◌, ◌<◌, ◌≤◌, Bool, true}
+use Rattle.std.proofs.Common.{false, ltb, eqb, List, [], ◌∷◌, length, take, drop, get_or, refl, sym}
+use Rattle.std.proofs.Common.{ap, ◌∙◌, arith, length-take, length-take-le, length-drop, get_or-take}
+use Rattle.std.proofs.Common.{get_or-drop, add-one}
 use Rattle.std.specs.Prelude.{bit_and, min, IsTrue}
 use Rattle.std.specs.Int.{bit_at}
 use Rattle.std.proofs.lemmas.Bool.{false≢true, ltb-true, ltb-false, eqb-true}
@@ -10,7 +13,7 @@ use Rattle.std.proofs.Math.Nat.{pow-le-pow_right}
 use Rattle.std.proofs.Math.Seq.{drop-cons}
 use Rattle.ts_der.specs.Octets.{AreOctets}
 use Rattle.ts_name.specs.Holds.{IsWithinRange}
-use Rattle.ts_constraint.specs.Ranges.{number_from, number}
+use Rattle.ts_constraint.specs.inside.Ranges.{number_from, number}
 
 past : (xs : List ℕ) (i d : ℕ) → length xs ≤ i → get_or xs i d ≡ d
 past [] i d h = refl
@@ -115,7 +118,10 @@ same-bits xs ys ms e f o p q =
     let right = and-number 0 0 ys ms f p q in (
       λ t.
           let same : number_from (bit_and 0 0) (under xs ms) ≡ number_from (bit_and 0 0) (under ys ms) = sym left ∙ (eqb-true _ _ t ∙ right) in
-          under-agree xs ys ms e f (same-digits (bit_and 0 0) (bit_and 0 0) (under xs ms) (under ys ms) (length-under xs ms e ∙ (e ∙ (sym f ∙ sym (length-under ys ms f)))) (under-octets xs ms o) (under-octets ys ms p) same).1,
+          under-agree xs ys ms e f
+          (same-digits (bit_and 0 0) (bit_and 0 0) (under xs ms) (under ys ms)
+          (length-under xs ms e ∙ (e ∙ (sym f ∙ sym (length-under ys ms f)))) (under-octets xs ms o)
+          (under-octets ys ms p) same).1,
       λ a.
           let same : bit_and (number xs) (number ms) ≡ bit_and (number ys) (number ms) = left ∙ (ap (number_from (bit_and 0 0)) (agree-under xs ys ms e f a) ∙ sym right) in
           ap (λ n. eqb n (bit_and (number ys) (number ms))) same ∙ itself (bit_and (number ys) (number ms)),
@@ -125,9 +131,14 @@ pub range-bits : (address range : List ℕ) (size : ℕ) → length address ≡ 
 range-bits address range size a r = (
   λ g. record {
     lengths = omega arith;
-    masked = λ k h. ap (bit_and (get_or address k 0)) (at k) ∙ (g k h ∙ (ap (λ n. bit_and n (get_or (drop size range) k 0)) (get_or-take size range k 0 (omega arith)) ∙ ap (bit_and (get_or range k 0)) (sym (at k))));
+    masked = λ k h. ap (bit_and (get_or address k 0)) (at k)
+        ∙ (g k h ∙ (ap (λ n. bit_and n (get_or (drop size range) k 0))
+        (get_or-take size range k 0 (omega arith)) ∙ ap (bit_and (get_or range k 0)) (sym (at k))));
   },
-  λ w k h. ap (bit_and (get_or address k 0)) (sym (at k)) ∙ (w.masked k h ∙ (ap (bit_and (get_or range k 0)) (at k) ∙ ap (λ n. bit_and n (get_or (drop size range) k 0)) (sym (get_or-take size range k 0 (omega arith))))),
+  λ w k h. ap (bit_and (get_or address k 0)) (sym (at k))
+      ∙ (w.masked k h ∙ (ap (bit_and (get_or range k 0)) (at k)
+      ∙ ap (λ n. bit_and n (get_or (drop size range) k 0))
+      (sym (get_or-take size range k 0 (omega arith))))),
 )
   where
     at : (k : ℕ) → get_or range (length address + k) 0 ≡ get_or (drop size range) k 0
@@ -154,14 +165,18 @@ next-digit n i octets m h e =
     ap (λ k. number_from (n * 256 + get_or octets i 0) (drop k octets)) (add-one i) ∙ (sym (ap (number_from n) (drop-cons octets i 0 h)) ∙ e)
 
 -- what the numbers of a range and of its mask test
-pub within-bits : (address range base mask : List ℕ) (size b m : ℕ) → AreOctets address → AreOctets range → length address ≡ size → length range ≡ 2 * size → base ≡ take size range → mask ≡ drop size range
+pub within-bits : (address range base mask : List ℕ) (size b m : ℕ) → AreOctets address
+    → AreOctets range → length address ≡ size → length range ≡ 2 * size → base ≡ take size range
+    → mask ≡ drop size range
     → b ≡ number base → m ≡ number mask → IsTrue (eqb (bit_and (number address) m) (bit_and b m)) ↔ IsWithinRange address range
 within-bits address range base mask size b m o p a r e f g h =
     let n : m ≡ number (drop size range) = h ∙ ap number f in
     let k : b ≡ number (take size range) = g ∙ ap number e in
     let test : eqb (bit_and (number address) m) (bit_and b m) ≡ eqb (bit_and (number address) (number (drop size range))) (bit_and (number (take size range)) (number (drop size range))) =
     ap (λ j. eqb (bit_and (number address) j) (bit_and b j)) n ∙ ap (λ j. eqb (bit_and (number address) (number (drop size range))) (bit_and j (number (drop size range)))) k in
-    let bits = same-bits address (take size range) (drop size range) (a ∙ sym (half range size r)) (length-take-le size range (omega arith) ∙ sym (half range size r)) o (front-octets range size p) (back-octets range size p) in
+    let bits = same-bits address (take size range) (drop size range) (a ∙ sym (half range size r))
+    (length-take-le size range (omega arith) ∙ sym (half range size r)) o
+    (front-octets range size p) (back-octets range size p) in
     let agree = range-bits address range size a r in
     (λ t. agree.0 (bits.0 (sym test ∙ t)), λ w. test ∙ bits.1 (agree.1 w))
   where

@@ -5,34 +5,38 @@ use Rattle.std.proofs.lemmas.Bool.{false≢true, true≢false, eqb-true}
 use Rattle.ts_der.specs.Octets.{AreOctets}
 use Rattle.ts_name.specs.General.{GeneralName, iPAddress}
 use Rattle.ts_name.specs.Holds.{Holds, IsWithinRange}
-use Rattle.ts_constraint.specs.declared.masked.Masked.{Masked}
+use Rattle.ts_constraint.specs.declared.masked.MaskedRange.{MaskedRange}
 use Rattle.ts_constraint.specs.Conditions.{Some_of}
-use Rattle.ts_constraint.specs.RangeTable.{LiesIn, AreRangesOf, AreOtherRanges, IsOtherLength}
-use Rattle.ts_constraint.specs.Ranges.{has_bits, is_in, is_in_one, number}
+use Rattle.ts_constraint.specs.inside.RangeTable.{LiesIn, AreRangesOf, AreOtherRanges, IsOtherLength}
+use Rattle.ts_constraint.specs.inside.Ranges.{has_bits, is_in, is_in_one, number}
 use Rattle.ts_constraint.proofs.Lists.{some-left, some-right, some-either}
 
 -- ---- ranges of one length
 
 -- an address has the bits of one that was gathered, or lies in a base that is left
-abbrev pub RangesLeft : ℕ → List Masked → List GeneralName → List GeneralName → Type 0
+abbrev pub RangesLeft : ℕ → List MaskedRange → List GeneralName → List GeneralName → Type 0
 RangesLeft size kept rest all = (address : List ℕ) → AreOctets address → length address ≡ size → (IsTrue (is_in_one kept (number address)) ⊎ LiesIn address rest) ↔ LiesIn address all
 
 -- what a base gave
-abbrev pub GivesRange : ℕ → Option Masked → GeneralName → Type 0
+abbrev pub GivesRange : ℕ → Option MaskedRange → GeneralName → Type 0
 GivesRange size range base = (address : List ℕ) → AreOctets address → length address ≡ size → IsTrue (is_in range (number address)) ↔ Holds base (iPAddress address)
 
-pub ranges-first : (size : ℕ) (kept : List Masked) (all : List GeneralName) → kept ≡ [] → RangesLeft size kept all all
-ranges-first size kept all e = subst (λ (ks : List Masked). RangesLeft size ks all all) (sym e) (λ address o l. (λ s. elim s [ inl t ↦ absurd (false≢true t) | inr p ↦ p ], λ p. inr p))
+pub ranges-first : (size : ℕ) (kept : List MaskedRange) (all : List GeneralName) → kept ≡ [] → RangesLeft size kept all all
+ranges-first size kept all e = subst (λ (ks : List MaskedRange). RangesLeft size ks all all) (sym e) (λ address o l. (λ s. elim s [ inl t ↦ absurd (false≢true t) | inr p ↦ p ], λ p. inr p))
 
-pub ranges-skip : (size : ℕ) (kept : List Masked) (base : GeneralName) (range : Option Masked) (xs rest all : List GeneralName) → range ≡ None → xs ≡ base ∷ rest → GivesRange size range base → RangesLeft size kept xs all → RangesLeft size kept rest all
+pub ranges-skip : (size : ℕ) (kept : List MaskedRange) (base : GeneralName)
+    (range : Option MaskedRange) (xs rest all : List GeneralName) → range ≡ None → xs ≡ base ∷ rest
+    → GivesRange size range base → RangesLeft size kept xs all → RangesLeft size kept rest all
 ranges-skip size kept base range xs rest all n e gives left address o l =
-    let gave : IsTrue (is_in None (number address)) ↔ Holds base (iPAddress address) = subst (λ (r : Option Masked). IsTrue (is_in r (number address)) ↔ Holds base (iPAddress address)) n (gives address o l) in
+    let gave : IsTrue (is_in None (number address)) ↔ Holds base (iPAddress address) =
+    subst (λ (r : Option MaskedRange). IsTrue (is_in r (number address)) ↔ Holds base
+    (iPAddress address)) n (gives address o l) in
     let whole = subst (λ (ys : List GeneralName). (IsTrue (is_in_one kept (number address)) ⊎ LiesIn address ys) ↔ LiesIn address all) e (left address o l) in (
       λ s. whole.0 (elim s [ inl k ↦ inl k | inr r ↦ inr (inr r) ]),
       λ a. elim (whole.1 a) [ inl k ↦ inl k | inr r ↦ elim r [ inl h ↦ absurd (false≢true (gave.1 h)) | inr u ↦ inr u ] ],
     )
 
-in-more : (kept : List Masked) (range : Masked) (n : ℕ) → is_in_one (kept ++ range ∷ []) n ≡ is_in_one kept n || has_bits n range
+in-more : (kept : List MaskedRange) (range : MaskedRange) (n : ℕ) → is_in_one (kept ++ range ∷ []) n ≡ is_in_one kept n || has_bits n range
 in-more [] range n = or-false (has_bits n range)
   where
     or-false : (b : Bool) → b || false ≡ b
@@ -56,12 +60,19 @@ or-right : (a b : Bool) → b ≡ true → a || b ≡ true
 or-right true b t = refl
 or-right false b t = t
 
-pub ranges-more : (size : ℕ) (kept new : List Masked) (range : Masked) (base : GeneralName) (given : Option Masked) (xs rest all : List GeneralName) → new ≡ kept ++ range ∷ [] → given ≡ Some range → xs ≡ base ∷ rest
+pub ranges-more : (size : ℕ) (kept new : List MaskedRange) (range : MaskedRange)
+    (base : GeneralName) (given : Option MaskedRange) (xs rest all : List GeneralName) → new ≡ kept
+    ++ range ∷ [] → given ≡ Some range → xs ≡ base ∷ rest
     → GivesRange size given base → RangesLeft size kept xs all → RangesLeft size new rest all
 ranges-more size kept new range base given xs rest all m n e gives left address o l =
-    let gave : IsTrue (has_bits (number address) range) ↔ Holds base (iPAddress address) = subst (λ (r : Option Masked). IsTrue (is_in r (number address)) ↔ Holds base (iPAddress address)) n (gives address o l) in
+    let gave : IsTrue (has_bits (number address) range) ↔ Holds base (iPAddress address) =
+    subst (λ (r : Option MaskedRange). IsTrue (is_in r (number address)) ↔ Holds base
+    (iPAddress address)) n (gives address o l) in
     let whole = subst (λ (ys : List GeneralName). (IsTrue (is_in_one kept (number address)) ⊎ LiesIn address ys) ↔ LiesIn address all) e (left address o l) in
-    let more : is_in_one new (number address) ≡ is_in_one kept (number address) || has_bits (number address) range = ap (λ (ks : List Masked). is_in_one ks (number address)) m ∙ in-more kept range (number address) in (
+    let more : is_in_one new (number address) ≡ is_in_one kept (number address)
+    || has_bits (number address) range =
+    ap (λ (ks : List MaskedRange). is_in_one ks (number address)) m
+    ∙ in-more kept range (number address) in (
       λ s. whole.0 (elim s [
         | inl t ↦ elim (or-either (is_in_one kept (number address)) (has_bits (number address) range) (sym more ∙ t)) [ inl k ↦ inl k | inr h ↦ inr (inl (gave.0 h)) ]
         | inr r ↦ inr (inr r)
@@ -72,7 +83,7 @@ ranges-more size kept new range base given xs rest all m n e gives left address 
       ],
     )
 
-pub ranges-all : (size : ℕ) (kept : List Masked) (rest all : List GeneralName) → rest ≡ [] → RangesLeft size kept rest all → AreRangesOf size kept all
+pub ranges-all : (size : ℕ) (kept : List MaskedRange) (rest all : List GeneralName) → rest ≡ [] → RangesLeft size kept rest all → AreRangesOf size kept all
 ranges-all size kept rest all e left address o l =
     let whole = subst (λ (ys : List GeneralName). (IsTrue (is_in_one kept (number address)) ⊎ LiesIn address ys) ↔ LiesIn address all) e (left address o l) in
     (λ t. whole.0 (inl t), λ a. elim (whole.1 a) [ inl k ↦ k | inr z ↦ absurd z ])
@@ -85,7 +96,9 @@ OthersLeft kept rest all = (address : List ℕ) → IsOtherLength address → (L
 pub others-first : (kept all : List GeneralName) → kept ≡ [] → OthersLeft kept all all
 others-first kept all e = subst (λ (ks : List GeneralName). OthersLeft ks all all) (sym e) (λ address o. (λ s. elim s [ inl z ↦ absurd z | inr p ↦ p ], λ p. inr p))
 
-pub others-skip : (kept : List GeneralName) (base : GeneralName) (xs rest all : List GeneralName) → xs ≡ base ∷ rest → ((address : List ℕ) → IsOtherLength address → Holds base (iPAddress address) → ⊥) → OthersLeft kept xs all → OthersLeft kept rest all
+pub others-skip : (kept : List GeneralName) (base : GeneralName) (xs rest all : List GeneralName)
+    → xs ≡ base ∷ rest → ((address : List ℕ) → IsOtherLength address
+    → Holds base (iPAddress address) → ⊥) → OthersLeft kept xs all → OthersLeft kept rest all
 others-skip kept base xs rest all e never left address o =
     let whole = subst (λ (ys : List GeneralName). (LiesIn address kept ⊎ LiesIn address ys) ↔ LiesIn address all) e (left address o) in (
       λ s. whole.0 (elim s [ inl k ↦ inl k | inr r ↦ inr (inr r) ]),
@@ -114,7 +127,9 @@ others-all kept rest all e left address o =
 pub never-other : (range address : List ℕ) → (length range ≡ 8) ⊎ (length range ≡ 32) → IsOtherLength address → IsWithinRange address range → ⊥
 never-other range address s o w = elim s [ inl e ↦ o.0 (omega (arith, w.lengths)) | inr e ↦ o.1 (omega (arith, w.lengths)) ]
 
-pub other-found : (address : List ℕ) (r : Bool) (slice some bases : List GeneralName) → slice ≡ some → IsTrue r ↔ LiesIn address slice → LiesIn address some ↔ LiesIn address bases → IsTrue r ↔ LiesIn address bases
+pub other-found : (address : List ℕ) (r : Bool) (slice some bases : List GeneralName) → slice ≡ some
+    → IsTrue r ↔ LiesIn address slice → LiesIn address some ↔ LiesIn address bases
+    → IsTrue r ↔ LiesIn address bases
 other-found address r slice some bases e d f =
     let again = subst (λ (xs : List GeneralName). IsTrue r ↔ LiesIn address xs) e d in
     (λ t. f.0 (again.0 t), λ p. again.1 (f.1 p))

@@ -22,7 +22,10 @@ not-empty view rest after (Some x) steps some e = cc
 abbrev pub joined : List (List Attr) → List Attr
 joined rdns = flat_map (λ rdn. rdn) rdns
 
-kept : (xs ys : List Attr) → filter (λ (a : Attr). bytes_eq a.kind email_address) (xs ++ ys) ≡ filter (λ (a : Attr). bytes_eq a.kind email_address) xs ++ filter (λ (a : Attr). bytes_eq a.kind email_address) ys
+kept : (xs ys : List Attr)
+    → filter (λ (a : Attr). bytes_eq a.kind email_address) (xs ++ ys) ≡ filter
+    (λ (a : Attr). bytes_eq a.kind email_address) xs
+    ++ filter (λ (a : Attr). bytes_eq a.kind email_address) ys
 kept [] ys = refl
 kept (x ∷ xs) ys = by_test (kept xs ys) (bytes_eq x.kind email_address)
   where

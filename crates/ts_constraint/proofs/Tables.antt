@@ -12,9 +12,9 @@ use Rattle.ts_name.specs.Sameness.{canon_name, IsWithin}
 use Rattle.ts_name.specs.SubtreeView.{subtree_in}
 use Rattle.ts_constraint.specs.declared.form.Form.{Form}
 use Rattle.ts_constraint.specs.Conditions.{Some_of}
-use Rattle.ts_constraint.specs.Directory.{compare_rdns, directory_form, directory_forms}
-use Rattle.ts_constraint.specs.Fronts.{is_front, has_front}
-use Rattle.ts_constraint.specs.Names.{form_of, is_processed}
+use Rattle.ts_constraint.specs.inside.Directory.{compare_rdns, directory_form, directory_forms}
+use Rattle.ts_constraint.specs.inside.Fronts.{is_front, has_front}
+use Rattle.ts_constraint.specs.Names.{form_of, is_processed_form}
 use Rattle.ts_constraint.specs.View.{bases_in}
 use Rattle.ts_constraint.proofs.DirectoryForms.{within-front-iff}
 use Rattle.ts_constraint.proofs.DomainEnds.{along, either}
@@ -29,7 +29,9 @@ Forms = List (List (List CanonAttr))
 abbrev is_among : Forms → List (List CanonAttr) → Bool
 is_among forms name = has_front compare_rdns (λ (k : List (List CanonAttr)). k) forms name
 
-one-more : (base : GeneralName) (forms : Forms) (name : List (List Attr)) → IsTrue (is_among (directory_form base ++ forms) (canon_name name)) ↔ (Holds base (directoryName name) ⊎ IsTrue (is_among forms (canon_name name)))
+one-more : (base : GeneralName) (forms : Forms) (name : List (List Attr))
+    → IsTrue (is_among (directory_form base ++ forms) (canon_name name)) ↔
+    (Holds base (directoryName name) ⊎ IsTrue (is_among forms (canon_name name)))
 one-more (directoryName subtree) forms name = either (is_front compare_rdns (canon_name subtree) (canon_name name)) (is_among forms (canon_name name)) (within-front-iff subtree name) (λ t. t, λ t. t)
 one-more base forms name = (λ t. inr t, λ s. elim s [ inl p ↦ absurd p | inr t ↦ t ])
 
@@ -49,13 +51,13 @@ by-names key gathered bases found name e same =
 
 -- ---- names of the forms that are not processed
 
-one-holds : (base name : GeneralName) → is_processed (form_of name) ≡ false → Holds base name → ⊥
+one-holds : (base name : GeneralName) → is_processed_form (form_of name) ≡ false → Holds base name → ⊥
 one-holds (directoryName x) (directoryName y) e h = true≢false e
 one-holds (dNSName x) (dNSName y) e h = true≢false e
 one-holds (iPAddress x) (iPAddress y) e h = true≢false e
 one-holds base name e h = absurd h
 
-pub none-holds : (bases : List GeneralName) (name : GeneralName) → is_processed (form_of name) ≡ false → Some_of (λ base. Holds base name) bases → ⊥
+pub none-holds : (bases : List GeneralName) (name : GeneralName) → is_processed_form (form_of name) ≡ false → Some_of (λ base. Holds base name) bases → ⊥
 none-holds [] name e some = some
 none-holds (base ∷ bases) name e some = elim some [ inl p ↦ one-holds base name e p | inr s ↦ none-holds bases name e s ]
 
@@ -79,7 +81,11 @@ forms-again kept base rest all left among form = (
 
 pub forms-more : (kept : List Form) (base : GeneralName) (rest all : List GeneralName) → Left kept (base ∷ rest) all → Left (kept ++ form_of base ∷ []) rest all
 forms-more kept base rest all left form = (
-  λ s. (left form).0 (elim s [ inl k ↦ elim (some-either (λ f. f ≡ form) kept (form_of base ∷ []) k) [ inl x ↦ inl x | inr y ↦ elim y [ inl e ↦ inr (inl e) | inr z ↦ absurd z ] ] | inr r ↦ inr (inr r) ]),
+  λ s. (left form).0 (elim s [
+    | inl k ↦ elim (some-either (λ f. f ≡ form) kept (form_of base ∷ []) k)
+        [ inl x ↦ inl x | inr y ↦ elim y [ inl e ↦ inr (inl e) | inr z ↦ absurd z ] ]
+    | inr r ↦ inr (inr r)
+  ]),
   λ a. elim ((left form).1 a) [
     | inl k ↦ inl (some-left (λ f. f ≡ form) kept (form_of base ∷ []) k)
     | inr r ↦ elim r [ inl e ↦ inl (some-right (λ f. f ≡ form) kept (form_of base ∷ []) (inl e)) | inr u ↦ inr u ]
@@ -89,11 +95,15 @@ forms-more kept base rest all left form = (
 pub forms-all : (kept : List Form) (all : List GeneralName) → Left kept [] all → (form : Form) → Some_of (λ f. f ≡ form) kept ↔ Some_of (λ base. form_of base ≡ form) all
 forms-all kept all left form = (λ k. (left form).0 (inl k), λ a. elim ((left form).1 a) [ inl k ↦ k | inr e ↦ absurd e ])
 
-pub forms-again-in : (kept slice : List Form) (form : Form) (base : GeneralName) (xs rest all : List GeneralName) → slice ≡ kept → form ≡ form_of base → xs ≡ base ∷ rest → Left kept xs all → Some_of (λ f. f ≡ form) slice → Left kept rest all
+pub forms-again-in : (kept slice : List Form) (form : Form) (base : GeneralName)
+    (xs rest all : List GeneralName) → slice ≡ kept → form ≡ form_of base → xs ≡ base ∷ rest
+    → Left kept xs all → Some_of (λ f. f ≡ form) slice → Left kept rest all
 forms-again-in kept slice form base xs rest all s e x left among =
     forms-again kept base rest all (subst (λ (ys : List GeneralName). Left kept ys all) x left) (moved (form_of base) form kept e (subst (λ (fs : List Form). Some_of (λ f. f ≡ form) fs) s among))
 
-pub forms-more-in : (kept new : List Form) (form : Form) (base : GeneralName) (xs rest all : List GeneralName) → new ≡ kept ++ form ∷ [] → form ≡ form_of base → xs ≡ base ∷ rest → Left kept xs all → Left new rest all
+pub forms-more-in : (kept new : List Form) (form : Form) (base : GeneralName)
+    (xs rest all : List GeneralName) → new ≡ kept ++ form ∷ [] → form ≡ form_of base → xs ≡ base
+    ∷ rest → Left kept xs all → Left new rest all
 forms-more-in kept new form base xs rest all n e x left =
     subst (λ (fs : List Form). Left fs rest all) (sym (n ∙ ap (λ (f : Form). kept ++ f ∷ []) e)) (forms-more kept base rest all (subst (λ (ys : List GeneralName). Left kept ys all) x left))
 
@@ -106,15 +116,19 @@ next-base xs i x h is =
 
 -- ---- what is found, of values that are equal
 
-pub held : (name other : GeneralName) (bases seen : List GeneralName) (r found : Bool) → r ≡ found → other ≡ name → bases ≡ seen → IsTrue found ↔ Some_of (λ base. Holds base other) bases → IsTrue r ↔ Some_of (λ base. Holds base name) seen
+pub held : (name other : GeneralName) (bases seen : List GeneralName) (r found : Bool) → r ≡ found
+    → other ≡ name → bases ≡ seen → IsTrue found ↔ Some_of (λ base. Holds base other) bases
+    → IsTrue r ↔ Some_of (λ base. Holds base name) seen
 held name other bases seen r found e n b d =
     subst (λ (xs : List GeneralName). IsTrue r ↔ Some_of (λ base. Holds base name) xs) b (subst (λ (x : GeneralName). IsTrue r ↔ Some_of (λ base. Holds base x) bases) n (along e d))
 
-pub of-form-held : (form : Form) (slice forms : List Form) (bases seen : List GeneralName) (r : Bool) → slice ≡ forms → bases ≡ seen → IsTrue r ↔ Some_of (λ f. f ≡ form) slice → (Some_of (λ f. f ≡ form) forms ↔ Some_of (λ base. form_of base ≡ form) bases)
+pub of-form-held : (form : Form) (slice forms : List Form) (bases seen : List GeneralName)
+    (r : Bool) → slice ≡ forms → bases ≡ seen → IsTrue r ↔ Some_of (λ f. f ≡ form) slice
+    → (Some_of (λ f. f ≡ form) forms ↔ Some_of (λ base. form_of base ≡ form) bases)
     → IsTrue r ↔ Some_of (λ base. form_of base ≡ form) seen
 of-form-held form slice forms bases seen r s b d e =
     let again = subst (λ (fs : List Form). IsTrue r ↔ Some_of (λ f. f ≡ form) fs) s d in
     subst (λ (xs : List GeneralName). IsTrue r ↔ Some_of (λ base. form_of base ≡ form) xs) b ((λ t. e.0 (again.0 t), λ p. again.1 (e.1 p)))
 
-pub never : (name : GeneralName) (bases : List GeneralName) → is_processed (form_of name) ≡ false → IsTrue false ↔ Some_of (λ base. Holds base name) bases
+pub never : (name : GeneralName) (bases : List GeneralName) → is_processed_form (form_of name) ≡ false → IsTrue false ↔ Some_of (λ base. Holds base name) bases
 never name bases e = (λ t. absurd (false≢true t), λ s. absurd (none-holds bases name e s))

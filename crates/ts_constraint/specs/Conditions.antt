@@ -14,7 +14,7 @@ use Rattle.ts_constraint.specs.declared.fault.NameFault.TheVariants.{Excluded}
 use Rattle.ts_constraint.specs.declared.condition.Condition.{Condition}
 use Rattle.ts_constraint.specs.declared.condition.Condition.TheVariants.{Supported, Permitted}
 use Rattle.ts_constraint.specs.declared.condition.Condition.TheVariants.{NotExcluded}
-use Rattle.ts_constraint.specs.Names.{form_of, is_processed}
+use Rattle.ts_constraint.specs.Names.{form_of, is_processed_form}
 use Rattle.ts_constraint.specs.Source.{Source}
 
 -- one of a list has a property
@@ -34,55 +34,56 @@ HasForm name base = form_of base ≡ form_of name
 abbrev pub FailsAt : Condition → GeneralName → Source → Type 0
 -- the source has a subtree of the name's form, which this profile does not process, so that the
 -- certificate has to be refused (4.2.1.10)
-FailsAt Supported name source = (is_processed (form_of name) ≡ false)
+FailsAt Supported name source = (is_processed_form (form_of name) ≡ false)
     × Some_of (HasForm name) (source.permitted ++ source.excluded)
 -- the source permits subtrees of the name's form, which is processed, and the name lies in none of
 -- them (6.1.3 (b))
 FailsAt Permitted name source =
-    (is_processed (form_of name) ≡ true) × Some_of (HasForm name) source.permitted
+    (is_processed_form (form_of name) ≡ true) × Some_of (HasForm name) source.permitted
     × None_of (λ base. Holds base name) source.permitted
 -- the name lies in a subtree that the source excludes (6.1.3 (c))
 FailsAt NotExcluded name source = Some_of (λ base. Holds base name) source.excluded
 
 -- a name does not meet a condition of one of the sources
-abbrev pub Fails : Condition → List Source → GeneralName → Type 0
-Fails condition sources name = Some_of (FailsAt condition name) sources
+abbrev pub NameFails : Condition → List Source → GeneralName → Type 0
+NameFails condition sources name = Some_of (FailsAt condition name) sources
 
 -- each name meets a condition of each source
-abbrev pub Meets : Condition → List Source → List GeneralName → Type 0
-Meets condition sources names = None_of (Fails condition sources) names
+abbrev pub EachNameMeets : Condition → List Source → List GeneralName → Type 0
+EachNameMeets condition sources names = None_of (NameFails condition sources) names
 
 -- the three conditions, of all names
 abbrev pub AreSupported : List Source → List GeneralName → Type 0
-AreSupported sources names = Meets Supported sources names
+AreSupported sources names = EachNameMeets Supported sources names
 
 abbrev pub ArePermitted : List Source → List GeneralName → Type 0
-ArePermitted sources names = Meets Permitted sources names
+ArePermitted sources names = EachNameMeets Permitted sources names
 
 abbrev pub AreNotExcluded : List Source → List GeneralName → Type 0
-AreNotExcluded sources names = Meets NotExcluded sources names
+AreNotExcluded sources names = EachNameMeets NotExcluded sources names
 
 -- the first name that does not meet a condition, by its form
-pub record FailsFirst (condition : Condition) (sources : List Source) (names : List GeneralName)
+pub record FirstNameFails (condition : Condition) (sources : List Source) (names : List GeneralName)
     (form : Form) : Type 0 where
   pub before : List GeneralName
   pub name : GeneralName
   pub rest : List GeneralName
   pub names_are : names ≡ before ++ name ∷ rest
-  pub meet : Meets condition sources before
-  pub fails : Fails condition sources name
+  pub meet : EachNameMeets condition sources before
+  pub fails : NameFails condition sources name
   pub form_is : form ≡ form_of name
 
 -- all three conditions are met, or the fault is the least that is not, with the form of the first
 -- name that does not meet it
-abbrev pub IsAnswer : List Source → List GeneralName → Result (Unit {0}) NameFault → Type 0
-IsAnswer sources names (Ok _) = Meets Supported sources names × Meets Permitted sources names
-    × Meets NotExcluded sources names
-IsAnswer sources names (Err (Unsupported form)) = FailsFirst Supported sources names form
-IsAnswer sources names (Err (NotPermitted form)) =
-    Meets Supported sources names × FailsFirst Permitted sources names form
-IsAnswer sources names (Err (Excluded form)) = Meets Supported sources names
-    × Meets Permitted sources names × FailsFirst NotExcluded sources names form
+abbrev pub IsBoundsAnswer : List Source → List GeneralName → Result (Unit {0}) NameFault → Type 0
+IsBoundsAnswer sources names (Ok _) = EachNameMeets Supported sources names × EachNameMeets
+    Permitted sources names
+    × EachNameMeets NotExcluded sources names
+IsBoundsAnswer sources names (Err (Unsupported form)) = FirstNameFails Supported sources names form
+IsBoundsAnswer sources names (Err (NotPermitted form)) =
+    EachNameMeets Supported sources names × FirstNameFails Permitted sources names form
+IsBoundsAnswer sources names (Err (Excluded form)) = EachNameMeets Supported sources names
+    × EachNameMeets Permitted sources names × FirstNameFails NotExcluded sources names form
 
 -- constraints do not bear on a self-issued certificate, unless it is the last of the chain (6.1.3
 -- (b), (c))
@@ -90,6 +91,6 @@ abbrev pub IsExempt : Tbs → Bool → Type 0
 IsExempt t last = (last ≡ false) × (canon_name t.issuer ≡ canon_name t.subject)
 
 -- each name meets a condition, or the form is that of the first that does not
-abbrev pub IsFirst : Condition → List Source → List GeneralName → Option Form → Type 0
-IsFirst condition sources names None = Meets condition sources names
-IsFirst condition sources names (Some form) = FailsFirst condition sources names form
+abbrev pub IsFirstForm : Condition → List Source → List GeneralName → Option Form → Type 0
+IsFirstForm condition sources names None = EachNameMeets condition sources names
+IsFirstForm condition sources names (Some form) = FirstNameFails condition sources names form

@@ -2,13 +2,4 @@ pub mod Names
 pub mod Source
 pub mod Conditions
 pub mod View
-pub mod Fronts
-pub mod Ending
-pub mod Hosts
-pub mod Directory
-pub mod Directories
-pub mod Sought
-pub mod Table
-pub mod Ranges
-pub mod RangeTable
-pub mod Quads
+pub mod inside

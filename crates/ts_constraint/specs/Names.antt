@@ -11,7 +11,7 @@ use Rattle.ts_name.specs.General.{registeredID}
 use Rattle.ts_ext.specs.declared.known.Known.TheVariants.{SubjectAltName}
 use Rattle.ts_ext.specs.GeneralNames.{general_names_of}
 use Rattle.ts_cert.specs.Certificate.{Tbs}
-use Rattle.ts_cert.specs.Stated.{stated}
+use Rattle.ts_cert.specs.Stated.{stated_value}
 use Rattle.ts_constraint.specs.declared.form.Form.{Form}
 use Rattle.ts_constraint.specs.declared.form.Form.TheVariants.{OtherName, Rfc822Name, DnsName}
 use Rattle.ts_constraint.specs.declared.form.Form.TheVariants.{X400Address, DirectoryName}
@@ -32,11 +32,11 @@ form_of (iPAddress octets) = IpAddress
 form_of (registeredID oid) = RegisteredId
 
 -- the forms whose constraints this profile processes
-abbrev pub is_processed : Form → Bool
-is_processed DirectoryName = true
-is_processed DnsName = true
-is_processed IpAddress = true
-is_processed form = false
+abbrev pub is_processed_form : Form → Bool
+is_processed_form DirectoryName = true
+is_processed_form DnsName = true
+is_processed_form IpAddress = true
+is_processed_form form = false
 
 -- emailAddress, 1.2.840.113549.1.9.1, as the content of an OBJECT IDENTIFIER
 abbrev pub email_address : List ℕ
@@ -61,4 +61,4 @@ alternatives subject (Some names) = names
 -- subjectAltName
 abbrev pub names_of : Tbs → List GeneralName
 names_of t = subject_names t.subject
-    ++ alternatives t.subject (stated SubjectAltName general_names_of t)
+    ++ alternatives t.subject (stated_value SubjectAltName general_names_of t)

@@ -6,7 +6,7 @@ use Rattle.ts_name.specs.Subtree.{GeneralSubtree}
 use Rattle.ts_ext.specs.declared.known.Known.TheVariants as extension
 use Rattle.ts_ext.specs.NameConstraints.{Constraints, name_constraints_of}
 use Rattle.ts_cert.specs.Certificate.{Tbs}
-use Rattle.ts_cert.specs.Stated.{stated}
+use Rattle.ts_cert.specs.Stated.{stated_value}
 
 -- each subtree by the name at which it begins
 pub record Source : Type 0 where
@@ -31,4 +31,4 @@ source_if (Some c) = record {
 
 -- what a certificate asks of the names of those that follow it
 abbrev pub source_of : Tbs → Source
-source_of t = source_if (stated extension.NameConstraints name_constraints_of t)
+source_of t = source_if (stated_value extension.NameConstraints name_constraints_of t)

@@ -9,16 +9,16 @@ ghost use Rattle.ts_name.specs.NameView.{rdns_in, attributes_in};
 ghost use Rattle.ts_name.specs.View.{attr_of};
 ghost use Rattle.ts_ext.specs.NameViews.{alternatives_in};
 ghost use Rattle.ts_cert.specs.CertView.{cert_in};
-ghost use Rattle.ts_constraint.specs.Conditions.{Fails, IsFirst, IsAnswer, IsExempt};
+ghost use Rattle.ts_constraint.specs.Conditions.{NameFails, IsFirstForm, IsBoundsAnswer, IsExempt};
 ghost use Rattle.ts_constraint.specs.Names.{addresses_of, email_address, subject_names, names_of};
 ghost use Rattle.ts_constraint.specs.Source.{source_of};
-ghost use Rattle.ts_constraint.specs.Sought.{name_in};
+ghost use Rattle.ts_constraint.specs.inside.Sought.{name_in};
 ghost use Rattle.ts_constraint.specs.View.{bases_in};
 
 use crate::condition::Condition;
 use crate::fault::NameFault;
 use crate::form::Form;
-use crate::sought::Sought;
+use crate::sought::SoughtName;
 use crate::source::Source;
 use std::alloc::{AllocError, Global};
 use std::marker::Model;
@@ -85,7 +85,7 @@ impl<'a> Bounds<'a> {
     pub fn check(&self, cert: &Cert<'_>, last: bool) -> Result<(), NameFault>
         ensures exempt { IsExempt (cert_in cert.now).tbsCertificate last → result ≡ Ok tt }
         ensures checked { ¬ (IsExempt (cert_in cert.now).tbsCertificate last)
-            → IsAnswer self.now (names_of (cert_in cert.now).tbsCertificate) result }
+            → IsBoundsAnswer self.now (names_of (cert_in cert.now).tbsCertificate) result }
     {
         if is_exempt(cert, last) {
             return Ok(());
@@ -104,7 +104,8 @@ impl<'a> Bounds<'a> {
 
     /// The form of the first name of a certificate that does not meet a condition.
     fn first_failing(&self, condition: Condition, cert: &Cert<'_>) -> Option<Form>
-        ensures { IsFirst condition self.now (names_of (cert_in cert.now).tbsCertificate) result }
+        ensures { IsFirstForm condition self.now
+            (names_of (cert_in cert.now).tbsCertificate) result }
     {
         let subject = cert.subject();
         if let Some(form) = self.first_of_subject(condition, subject) {
@@ -118,14 +119,14 @@ impl<'a> Bounds<'a> {
 
     /// Whether a name does not meet a condition of one of the sources.
     fn fails(&self, condition: Condition, name: General<'_>) -> bool
-        ensures { IsTrue result ↔ Fails condition self.now (general_in name.entry) }
+        ensures { IsTrue result ↔ NameFails condition self.now (general_in name.entry) }
     {
-        self.fails_sought(condition, &Sought::new(self.alloc, name))
+        self.fails_sought(condition, &SoughtName::new(self.alloc, name))
     }
 
     /// Whether a name that is looked up does not meet a condition of one of the sources.
-    fn fails_sought(&self, condition: Condition, name: &Sought<'_>) -> bool
-        ensures { IsTrue result ↔ Fails condition self.now (name_in name.now) }
+    fn fails_sought(&self, condition: Condition, name: &SoughtName<'_>) -> bool
+        ensures { IsTrue result ↔ NameFails condition self.now (name_in name.now) }
     {
         let mut rest = self.sources.as_slice();
         while let [source, others @ ..] = rest {
@@ -139,7 +140,7 @@ impl<'a> Bounds<'a> {
 
     /// The form of a directory name, if the subject does not meet a condition.
     fn first_of_subject(&self, condition: Condition, subject: Name<'_>) -> Option<Form>
-        ensures { IsFirst condition self.now (subject_names (rdns_in subject.entry)) result }
+        ensures { IsFirstForm condition self.now (subject_names (rdns_in subject.entry)) result }
     {
         if subject.rdns().next().is_none() {
             return None;
@@ -152,7 +153,7 @@ impl<'a> Bounds<'a> {
 
     /// The form of the first of these names that does not meet a condition.
     fn first_of_names(&self, condition: Condition, names: AlternativeNames<'_>) -> Option<Form>
-        ensures { IsFirst condition self.now (alternatives_in names.entry) result }
+        ensures { IsFirstForm condition self.now (alternatives_in names.entry) result }
     {
         for name in names.iter() {
             if self.fails(condition, name) {
@@ -164,7 +165,7 @@ impl<'a> Bounds<'a> {
 
     /// The form of a mail address, if one in the subject does not meet a condition.
     fn first_of_addresses(&self, condition: Condition, subject: Name<'_>) -> Option<Form>
-        ensures { IsFirst condition self.now
+        ensures { IsFirstForm condition self.now
             (addresses_of (flat_map (λ rdn. rdn) (rdns_in subject.entry))) result }
     {
         for rdn in subject.rdns() {
@@ -178,7 +179,7 @@ impl<'a> Bounds<'a> {
     /// The form of a mail address, if one in a relative distinguished name does not meet a
     /// condition.
     fn first_of_rdn(&self, condition: Condition, rdn: Rdn<'_>) -> Option<Form>
-        ensures { IsFirst condition self.now (addresses_of (attributes_in rdn.entry)) result }
+        ensures { IsFirstForm condition self.now (addresses_of (attributes_in rdn.entry)) result }
     {
         for attribute in rdn.attributes() {
             if !is_address(attribute) {

@@ -7,9 +7,9 @@ ghost use Rattle.ts_name.specs.Holds.{Holds};
 ghost use Rattle.ts_name.specs.NameView.{rdns_in};
 ghost use Rattle.ts_name.specs.Sameness.{canon_name};
 ghost use Rattle.ts_constraint.specs.Conditions.{Some_of};
-ghost use Rattle.ts_constraint.specs.Directories.{form_in, has_directory};
-ghost use Rattle.ts_constraint.specs.Directory.{compare_rdns, directory_forms};
-ghost use Rattle.ts_constraint.specs.Fronts.{AreApart};
+ghost use Rattle.ts_constraint.specs.inside.Directories.{form_in, has_directory};
+ghost use Rattle.ts_constraint.specs.inside.Directory.{compare_rdns, directory_forms};
+ghost use Rattle.ts_constraint.specs.inside.Fronts.{AreApart};
 ghost use Rattle.ts_constraint.specs.View.{bases_in};
 
 use crate::directory::{Directory, is_front};

@@ -5,8 +5,8 @@ ghost use Rattle.std.specs.Cmp.Lexicographic.{slice_cmp};
 ghost use Rattle.ts_name.specs.CanonView.{rdns_in as canon_in};
 ghost use Rattle.ts_name.specs.NameView.{rdns_in};
 ghost use Rattle.ts_name.specs.Sameness.{canon_name};
-ghost use Rattle.ts_constraint.specs.Directory.{compare_rdns};
-ghost use Rattle.ts_constraint.specs.Fronts.{is_front};
+ghost use Rattle.ts_constraint.specs.inside.Directory.{compare_rdns};
+ghost use Rattle.ts_constraint.specs.inside.Fronts.{is_front};
 
 use std::alloc::{AllocError, Global};
 use std::cmp::Ordering;

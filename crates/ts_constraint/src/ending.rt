@@ -3,8 +3,8 @@
 ghost use Rattle.std.specs.Prelude.{◌≡◌};
 ghost use Rattle.std.specs.Cmp.Lexicographic.{slice_cmp};
 ghost use Rattle.std.specs.Ordering.{nat_cmp};
-ghost use Rattle.ts_constraint.specs.Ending.{octets, Takes};
-ghost use Rattle.ts_constraint.specs.Fronts.{front_cmp};
+ghost use Rattle.ts_constraint.specs.inside.Ending.{octets, Takes};
+ghost use Rattle.ts_constraint.specs.inside.Fronts.{front_cmp};
 
 use std::cmp::Ordering;
 

@@ -2,8 +2,8 @@
 
 ghost use Rattle.std.specs.Prelude.{◌≡◌, ℕ, List};
 ghost use Rattle.std.specs.Ordering.{nat_cmp};
-ghost use Rattle.ts_constraint.specs.Ending.{octets};
-ghost use Rattle.ts_constraint.specs.Fronts.{has_front, AreApart};
+ghost use Rattle.ts_constraint.specs.inside.Ending.{octets};
+ghost use Rattle.ts_constraint.specs.inside.Fronts.{has_front, AreApart};
 
 use crate::ending::Ending;
 

@@ -2,9 +2,8 @@
 
 ghost use Rattle.std.specs.Prelude.{◌≡◌};
 ghost use Rattle.ts_name.specs.GeneralView.{general_in};
-ghost use Rattle.ts_constraint.specs.Names.{form_of, is_processed};
+ghost use Rattle.ts_constraint.specs.Names.{form_of, is_processed_form};
 
-use std::fmt;
 use ts_name::General;
 
 /// The nine forms of a general name (RFC 5280 4.2.1.6).
@@ -42,26 +41,8 @@ impl Form {
     /// Whether this profile processes constraints of this form: directory names, names of hosts and
     /// IP addresses.
     pub fn is_processed(self) -> bool
-        ensures { result ≡ is_processed self }
+        ensures { result ≡ is_processed_form self }
     {
         matches!(self, Form::DirectoryName | Form::DnsName | Form::IpAddress)
-    }
-}
-
-/// The name of the form in RFC 5280 4.2.1.6.
-impl fmt::Display for Form {
-    fn fmt<W: fmt::Write>(&self, f: &mut fmt::Formatter<W>) -> fmt::Result {
-        let name = match self {
-            Form::OtherName => "otherName",
-            Form::Rfc822Name => "rfc822Name",
-            Form::DnsName => "dNSName",
-            Form::X400Address => "x400Address",
-            Form::DirectoryName => "directoryName",
-            Form::EdiPartyName => "ediPartyName",
-            Form::UniformResourceIdentifier => "uniformResourceIdentifier",
-            Form::IpAddress => "iPAddress",
-            Form::RegisteredId => "registeredID",
-        };
-        write!(f, "{name}")
     }
 }

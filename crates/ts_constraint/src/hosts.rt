@@ -6,9 +6,9 @@ ghost use Rattle.ts_name.specs.General.{dNSName};
 ghost use Rattle.ts_name.specs.GeneralView.{general_in};
 ghost use Rattle.ts_name.specs.Holds.{Holds};
 ghost use Rattle.ts_constraint.specs.Conditions.{Some_of};
-ghost use Rattle.ts_constraint.specs.Ending.{octets};
-ghost use Rattle.ts_constraint.specs.Hosts.{domain_ending, domain_endings, dotted_ending};
-ghost use Rattle.ts_constraint.specs.Hosts.{dotted_endings, has_host};
+ghost use Rattle.ts_constraint.specs.inside.Ending.{octets};
+ghost use Rattle.ts_constraint.specs.inside.Hosts.{domain_ending, domain_endings, dotted_ending};
+ghost use Rattle.ts_constraint.specs.inside.Hosts.{dotted_endings, has_host};
 ghost use Rattle.ts_constraint.specs.View.{bases_in};
 
 use crate::ending::Ending;

@@ -6,15 +6,15 @@ ghost use Rattle.ts_der.specs.Octets.{AreOctets};
 ghost use Rattle.ts_name.specs.General.{iPAddress};
 ghost use Rattle.ts_name.specs.GeneralView.{general_in};
 ghost use Rattle.ts_name.specs.Holds.{Holds, IsWithinRange};
-ghost use Rattle.ts_constraint.specs.Ranges.{is_in, is_in_one, number, AreBelow};
-ghost use Rattle.ts_constraint.specs.Quads.{widened};
+ghost use Rattle.ts_constraint.specs.inside.Ranges.{is_in, is_in_one, number, AreBelow};
+ghost use Rattle.ts_constraint.specs.inside.Quads.{as_masked};
 
 use ts_name::General;
 
 /// A range of addresses of up to sixteen octets: those that have the bits of the base wherever the
 /// mask has a bit.
 #[derive(Clone, Copy)]
-pub(crate) struct Masked {
+pub(crate) struct MaskedRange {
     /// The address of the range, with each bit 0 that the mask doesn't have.
     pub(crate) base: u128,
     pub(crate) mask: u128,
@@ -34,7 +34,7 @@ pub(crate) fn number(octets: &[u8]) -> u128
 }
 
 /// The range of addresses of this length that octets are, which are an address and a mask.
-fn range(octets: &[u8], size: usize) -> Option<Masked>
+fn range(octets: &[u8], size: usize) -> Option<MaskedRange>
     requires { size ≤ 16 }
     ensures found { (address : List ℕ) → AreOctets address → length address ≡ size
         → IsTrue (is_in result (number address)) ↔ IsWithinRange address octets.now }
@@ -45,14 +45,14 @@ fn range(octets: &[u8], size: usize) -> Option<Masked>
     }
     let (base, mask) = octets.split_at(size);
     let mask = number(mask);
-    Some(Masked {
+    Some(MaskedRange {
         base: number(base) & mask,
         mask,
     })
 }
 
 /// The range of addresses of this length that a base is, if it is one.
-pub(crate) fn range_of(base: General<'_>, size: usize) -> Option<Masked>
+pub(crate) fn range_of(base: General<'_>, size: usize) -> Option<MaskedRange>
     requires { size ≤ 16 }
     ensures found { (address : List ℕ) → AreOctets address → length address ≡ size
         → IsTrue (is_in result (number address))
@@ -66,7 +66,7 @@ pub(crate) fn range_of(base: General<'_>, size: usize) -> Option<Masked>
 }
 
 /// Whether an address has the bits of one of the ranges.
-pub(crate) fn is_in_one(ranges: &[Masked], address: u128) -> bool
+pub(crate) fn is_in_one(ranges: &[MaskedRange], address: u128) -> bool
     ensures { result ≡ is_in_one ranges.now address }
 {
     let mut rest = ranges;
@@ -86,11 +86,11 @@ pub(crate) struct Quad {
     mask: u32,
 }
 
-impl Masked {
+impl MaskedRange {
     /// The range as one of addresses of four octets.
     pub(crate) fn narrowed(self) -> Quad
         requires { AreBelow 4 self }
-        ensures { widened result ≡ self }
+        ensures { as_masked result ≡ self }
     {
         Quad {
             base: self.base as u32,
@@ -101,7 +101,7 @@ impl Masked {
 
 /// Whether an address of four octets has the bits of one of the ranges.
 pub(crate) fn is_in_quad(ranges: &[Quad], address: u32) -> bool
-    ensures { result ≡ is_in_one (map widened ranges.now) address }
+    ensures { result ≡ is_in_one (map as_masked ranges.now) address }
 {
     let mut rest = ranges;
     while let [range, others @ ..] = rest {

@@ -5,12 +5,12 @@ ghost use Rattle.ts_name.specs.General.{GeneralName, iPAddress};
 ghost use Rattle.ts_name.specs.GeneralView.{general_in};
 ghost use Rattle.ts_name.specs.Holds.{Holds};
 ghost use Rattle.ts_constraint.specs.Conditions.{Some_of};
-ghost use Rattle.ts_constraint.specs.RangeTable.{AreRanges, AreRangesOf, AreOtherRanges};
-ghost use Rattle.ts_constraint.specs.RangeTable.{IsOtherLength};
-ghost use Rattle.ts_constraint.specs.Quads.{widened};
+ghost use Rattle.ts_constraint.specs.inside.RangeTable.{AreRanges, AreRangesOf, AreOtherRanges};
+ghost use Rattle.ts_constraint.specs.inside.RangeTable.{IsOtherLength};
+ghost use Rattle.ts_constraint.specs.inside.Quads.{as_masked};
 ghost use Rattle.ts_constraint.specs.View.{bases_in};
 
-use crate::masked::{Masked, Quad, is_in_one, is_in_quad, number, range_of};
+use crate::masked::{MaskedRange, Quad, is_in_one, is_in_quad, number, range_of};
 use std::alloc::{AllocError, Global};
 use ts_name::{General, Subtree};
 
@@ -20,7 +20,7 @@ pub(crate) struct Ranges<'a> {
     /// Those of addresses of four octets.
     short: Vec<Quad>,
     /// Those of addresses of sixteen octets.
-    long: Vec<Masked>,
+    long: Vec<MaskedRange>,
     /// Those of addresses of other lengths, which no constraint has that was read.
     others: Vec<Subtree<'a>>,
 }
@@ -58,7 +58,7 @@ impl<'a> Ranges<'a> {
 
 /// The ranges of addresses of four octets.
 fn gather_short(alloc: Global, subtrees: &[Subtree<'_>]) -> Result<Vec<Quad>, AllocError>
-    ensures { IfOk result (λ v. AreRangesOf 4 (map widened v.items) (bases_in subtrees.now)) }
+    ensures { IfOk result (λ v. AreRangesOf 4 (map as_masked v.items) (bases_in subtrees.now)) }
 {
     let mut ranges = Vec::new(alloc);
     for subtree in subtrees {
@@ -71,7 +71,7 @@ fn gather_short(alloc: Global, subtrees: &[Subtree<'_>]) -> Result<Vec<Quad>, Al
 }
 
 /// The ranges of addresses of sixteen octets.
-fn gather_long(alloc: Global, subtrees: &[Subtree<'_>]) -> Result<Vec<Masked>, AllocError>
+fn gather_long(alloc: Global, subtrees: &[Subtree<'_>]) -> Result<Vec<MaskedRange>, AllocError>
     ensures { IfOk result (λ v. AreRangesOf 16 v.items (bases_in subtrees.now)) }
 {
     let mut ranges = Vec::new(alloc);

@@ -3,7 +3,7 @@
 ghost use Rattle.std.specs.Prelude.{◌≡◌};
 ghost use Rattle.ts_name.specs.GeneralView.{general_in};
 ghost use Rattle.ts_constraint.specs.Names.{form_of};
-ghost use Rattle.ts_constraint.specs.Sought.{name_in};
+ghost use Rattle.ts_constraint.specs.inside.Sought.{name_in};
 
 use crate::directory::Directory;
 use crate::form::Form;
@@ -13,13 +13,13 @@ use ts_name::General;
 /// A name that is looked up. The canonical form of a distinguished name is made once, for all
 /// sources.
 #[derive(Drop)]
-pub(crate) enum Sought<'a> {
+pub(crate) enum SoughtName<'a> {
     Directory(Directory<'a>),
     /// A name of another form, or a distinguished name for whose canonical form there is no memory.
     Other(General<'a>),
 }
 
-impl<'a> Sought<'a> {
+impl<'a> SoughtName<'a> {
     /// A general name, prepared for look-ups. A distinguished name for which allocation fails stays
     /// as it is.
     pub(crate) fn new(alloc: Global, name: General<'a>) -> Self
@@ -27,10 +27,10 @@ impl<'a> Sought<'a> {
     {
         match name {
             General::DirectoryName(directory) => match Directory::new(alloc, directory) {
-                Ok(directory) => Sought::Directory(directory),
-                Err(_) => Sought::Other(name),
+                Ok(directory) => SoughtName::Directory(directory),
+                Err(_) => SoughtName::Other(name),
             },
-            _ => Sought::Other(name),
+            _ => SoughtName::Other(name),
         }
     }
 
@@ -39,8 +39,8 @@ impl<'a> Sought<'a> {
         ensures { result ≡ form_of (name_in self.now) }
     {
         match self {
-            Sought::Directory(_) => Form::DirectoryName,
-            Sought::Other(name) => Form::of(*name),
+            SoughtName::Directory(_) => Form::DirectoryName,
+            SoughtName::Other(name) => Form::of(*name),
         }
     }
 }

@@ -7,11 +7,11 @@ ghost use Rattle.ts_constraint.specs.Conditions.{FailsAt};
 ghost use Rattle.ts_constraint.specs.declared.condition.Condition.TheVariants.{Supported};
 ghost use Rattle.ts_constraint.specs.declared.condition.Condition.TheVariants.{Permitted};
 ghost use Rattle.ts_constraint.specs.Source.{bases, bases_if, source_of};
-ghost use Rattle.ts_constraint.specs.Sought.{name_in};
+ghost use Rattle.ts_constraint.specs.inside.Sought.{name_in};
 ghost use Rattle.ts_constraint.specs.View.{bases_in, AreBases};
 
 use crate::condition::Condition;
-use crate::sought::Sought;
+use crate::sought::SoughtName;
 use crate::table::Table;
 use std::alloc::{AllocError, Global};
 use std::marker::Model;
@@ -66,7 +66,7 @@ impl<'a> Source<'a> {
     }
 
     /// Whether a name does not meet a condition of the source.
-    pub(crate) fn fails(&self, condition: Condition, name: &Sought<'_>) -> bool
+    pub(crate) fn fails(&self, condition: Condition, name: &SoughtName<'_>) -> bool
         ensures { IsTrue result ↔ FailsAt condition (name_in name.now) self.now }
     {
         match condition {
@@ -77,7 +77,7 @@ impl<'a> Source<'a> {
     }
 
     /// Whether the source has a subtree of the name's form, which is not processed.
-    fn is_unsupported(&self, name: &Sought<'_>) -> bool
+    fn is_unsupported(&self, name: &SoughtName<'_>) -> bool
         ensures { IsTrue result ↔ FailsAt Supported (name_in name.now) self.now }
     {
         let form = name.form();
@@ -92,7 +92,7 @@ impl<'a> Source<'a> {
 
     /// Whether the source permits subtrees of the name's form, which is processed, and the name
     /// lies in none of them.
-    fn is_not_permitted(&self, name: &Sought<'_>) -> bool
+    fn is_not_permitted(&self, name: &SoughtName<'_>) -> bool
         ensures { IsTrue result ↔ FailsAt Permitted (name_in name.now) self.now }
     {
         let form = name.form();

@@ -5,15 +5,15 @@ ghost use Rattle.ts_name.specs.GeneralView.{general_in};
 ghost use Rattle.ts_name.specs.Holds.{Holds};
 ghost use Rattle.ts_constraint.specs.Conditions.{Some_of};
 ghost use Rattle.ts_constraint.specs.Names.{form_of};
-ghost use Rattle.ts_constraint.specs.Sought.{name_in};
-ghost use Rattle.ts_constraint.specs.Table.{AreForms};
+ghost use Rattle.ts_constraint.specs.inside.Sought.{name_in};
+ghost use Rattle.ts_constraint.specs.inside.Table.{AreForms};
 ghost use Rattle.ts_constraint.specs.View.{bases_in};
 
 use crate::directories::Directories;
 use crate::form::Form;
 use crate::hosts::Hosts;
 use crate::ranges::Ranges;
-use crate::sought::Sought;
+use crate::sought::SoughtName;
 use std::alloc::{AllocError, Global};
 use std::marker::Model;
 use ts_name::{General, Subtree};
@@ -33,7 +33,7 @@ pub(crate) struct Table<'a> {
 impl<'a> Model for Table<'a> {
     ghost use Rattle.std.specs.Prelude.{List};
     ghost use Rattle.ts_name.specs.General.{GeneralName};
-    ghost use Rattle.ts_constraint.specs.Table.{AreTables};
+    ghost use Rattle.ts_constraint.specs.inside.Table.{AreTables};
     ghost use Rattle.ts_constraint.specs.View.{bases_in};
 
     ghost Value = { List GeneralName };
@@ -70,12 +70,12 @@ impl<'a> Table<'a> {
     }
 
     /// Whether a name lies in one of the subtrees.
-    pub(crate) fn holds(&self, name: &Sought<'_>) -> bool
+    pub(crate) fn holds(&self, name: &SoughtName<'_>) -> bool
         ensures { IsTrue result ↔ Some_of (λ base. Holds base (name_in name.now)) self.now }
     {
         match name {
-            Sought::Directory(name) => self.directories.has(name),
-            Sought::Other(name) => self.holds_other(*name),
+            SoughtName::Directory(name) => self.directories.has(name),
+            SoughtName::Other(name) => self.holds_other(*name),
         }
     }
 

@@ -22,7 +22,7 @@ use Rattle.ts_field.specs.declared.time.Time.{Time}
 use Rattle.ts_field.specs.Time.{time_at}
 use Rattle.ts_field.proofs.Times.{time-part}
 use Rattle.ts_crl.specs.List.{LocatedExtensions, LocatedEntry, RevokedCertificate, unlocated_extensions, unlocated_entry}
-use Rattle.ts_crl.specs.Reading.{extensions_of, wrapped_extensions_of, entry_of, entry_in, revoked_of}
+use Rattle.ts_crl.specs.Reading.{located_extensions_of, wrapped_extensions_of, entry_of, located_entry_of, revoked_of}
 use Rattle.ts_crl.specs.Encoding.{IsRevokedCertificate, AreRevoked}
 use Rattle.ts_crl.proofs.Saying.{say, say_at, Says, unsaid, unsaid_at, tagged-say, optional-say, alone-say, many-say, some-say}
 
@@ -35,8 +35,8 @@ placed-unlocated : (at : ℕ) (r : Result (List Located) Fault) → say (map unl
 placed-unlocated at (Ok xs) = refl
 placed-unlocated at (Err d) = refl
 
-pub extensions-unlocated : Says unlocated_extensions extensions_of stated_of
-unfolding extensions_of
+pub extensions-unlocated : Says unlocated_extensions located_extensions_of stated_of
+unfolding located_extensions_of
 extensions-unlocated e = listed-unlocated e ∙ placed-unlocated e.at (some_of located_in e)
 
 -- [0] EXPLICIT Extensions, by what they say
@@ -70,19 +70,31 @@ unfolding entry_of
 entry-found e x fits read =
     let s = bind_ok (integer_at (inside e)) _ x read in
     let d = bind_ok (time_at s.0.1) _ x s.2 in
-    let o = bind_ok (optional_of 0x30 extensions_of d.0.1) _ x d.2 in
+    let o = bind_ok (optional_of 0x30 located_extensions_of d.0.1) _ x d.2 in
     let z = bind_ok (end_at o.0.1) _ x o.2 in
     let made : LocatedEntry = record { userCertificate = s.0.0; revocationDate = d.0.0; crlEntryExtensions = o.0.0 } in
     let same : made ≡ x = ok_is {A = LocatedEntry} {E = Fault} made x z.2 in
     let serial = took integer-part (inside e) s.0.0 s.0.1 fits s.1 in
     let date = took time-part s.0.1 d.0.0 d.0.1 serial.3 d.1 in
     let stated : optional_of 0x30 stated_of d.0.1 ≡ Ok (option_map unlocated_extensions o.0.0, o.0.1) =
-    optional-say 0x30 unlocated_extensions extensions_of stated_of extensions-unlocated d.0.1 ∙ ap (λ (r : Result (Option LocatedExtensions × Place) Fault). say_at (option_map unlocated_extensions) r) o.1 in
+    optional-say 0x30 unlocated_extensions located_extensions_of stated_of extensions-unlocated
+    d.0.1 ∙ ap (λ (r : Result (Option LocatedExtensions × Place) Fault). say_at
+    (option_map unlocated_extensions) r) o.1 in
     let ext = optional-found 0x30 stated_of AreExtensions extensions-value d.0.1 (option_map unlocated_extensions o.0.0) o.0.1 date.3 stated in
     let last : d.0.1.rest ≡ ext.0 = ext.2 ∙ (ap (λ (r : List ℕ). ext.0 ++ r) (end-ok o.0.1 z.0 z.1) ∙ append-nil ext.0) in
     let behind : s.0.1.rest ≡ date.0 ++ ext.0 = date.2 ∙ ap (λ (r : List ℕ). date.0 ++ r) last in
     subst (λ (y : LocatedEntry). IsRevokedCertificate e.content (unlocated_entry y)) same
-    (record { serial = serial.0; date = date.0; extensions = ext.0; userCertificate = serial.1; revocationDate = date.1; crlEntryExtensions = ext.1; fields = serial.2 ∙ ap (λ (r : List ℕ). serial.0 ++ r) behind })
+    (record {
+      serial = serial.0;
+      date = date.0;
+      extensions = ext.0;
+      userCertificate =
+          serial.1;
+      revocationDate = date.1;
+      crlEntryExtensions = ext.1;
+      fields = serial.2
+          ∙ ap (λ (r : List ℕ). serial.0 ++ r) behind;
+    })
 
 entry-again : (e : Tlv) (y : RevokedCertificate) → IsRevokedCertificate e.content y → (x : LocatedEntry) × (entry_of e ≡ Ok x) × (unlocated_entry x ≡ y)
 unfolding entry_of
@@ -93,12 +105,20 @@ entry-again e y is =
     let q : Place = record { rest = is.extensions; at = p.at + length is.date } in
     let r : Place = record { rest = []; at = q.at + length is.extensions } in
     let c = optional-again 0x30 stated_of AreExtensions extensions-value q y.crlEntryExtensions is.extensions [] is.crlEntryExtensions refl (sym (append-nil is.extensions)) in
-    let o = unsaid_at (option_map unlocated_extensions) (optional_of 0x30 extensions_of q) y.crlEntryExtensions r (sym (optional-say 0x30 unlocated_extensions extensions_of stated_of extensions-unlocated q) ∙ c) in
+    let o = unsaid_at (option_map unlocated_extensions) (optional_of 0x30 located_extensions_of q)
+    y.crlEntryExtensions r
+    (sym (optional-say 0x30 unlocated_extensions located_extensions_of stated_of
+    extensions-unlocated q) ∙ c) in
     joined (integer_at (inside e)) p q r o.0 a b o.1 (end-again r.at) o.2
   where
-    joined : (first : Result (List ℕ × Place) Fault) (p q r : Place) (xs : Option LocatedExtensions) → first ≡ Ok (y.userCertificate, p) → time_at p ≡ Ok (y.revocationDate, q) → optional_of 0x30 extensions_of q ≡ Ok (xs, r)
+    joined : (first : Result (List ℕ × Place) Fault) (p q r : Place) (xs : Option LocatedExtensions)
+        → first ≡ Ok (y.userCertificate, p) → time_at p ≡ Ok (y.revocationDate, q)
+        → optional_of 0x30 located_extensions_of q ≡ Ok (xs, r)
         → end_at r ≡ Ok tt → option_map unlocated_extensions xs ≡ y.crlEntryExtensions
-        → (x : LocatedEntry) × ((first >>= λ serial. time_at serial.1 >>= λ date. optional_of 0x30 extensions_of date.1 >>= λ extensions. end_at extensions.1 >>= λ done. made serial.0 date.0 extensions.0) ≡ Ok x) × (unlocated_entry x ≡ y)
+        → (x : LocatedEntry) ×
+        ((first >>= λ serial. time_at serial.1 >>= λ date. optional_of 0x30
+        located_extensions_of date.1 >>= λ extensions. end_at extensions.1 >>= λ done. made
+        serial.0 date.0 extensions.0) ≡ Ok x) × (unlocated_entry x ≡ y)
     joined first p q r xs a b c d same = (
       record { userCertificate = y.userCertificate; revocationDate = y.revocationDate; crlEntryExtensions = xs },
       rw (a, b, c, d) refl,
@@ -121,7 +141,7 @@ abbrev pub stated_revoked_of : Tlv → Result (List RevokedCertificate) Fault
 stated_revoked_of e = many (each (of_tag 0x30 stated_entry_of)) (inside e)
 
 pub revoked-unlocated : Says (map unlocated_entry) revoked_of stated_revoked_of
-revoked-unlocated e = many-say unlocated_entry entry_in (of_tag 0x30 stated_entry_of) (tagged-say 0x30 unlocated_entry entry_of stated_entry_of (λ x. refl)) (inside e)
+revoked-unlocated e = many-say unlocated_entry located_entry_of (of_tag 0x30 stated_entry_of) (tagged-say 0x30 unlocated_entry entry_of stated_entry_of (λ x. refl)) (inside e)
 
 pub revoked-value : Value 0x30 stated_revoked_of AreRevoked
 revoked-value =

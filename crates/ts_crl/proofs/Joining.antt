@@ -22,10 +22,11 @@ use Rattle.ts_field.specs.declared.time.Time.{Time}
 use Rattle.ts_field.specs.Time.{time_at}
 use Rattle.ts_crl.specs.declared.extension_rule.ExtensionRule.{ExtensionRule}
 use Rattle.ts_crl.specs.declared.extension_rule.ExtensionRule.TheVariants.{OldVersion, Repeated, Values}
-use Rattle.ts_crl.specs.Findings.{Findings, findings_of, joined, found_among, found_in, found_if_any}
+use Rattle.ts_crl.specs.Findings.{Findings, findings_of}
+use Rattle.ts_crl.specs.inside.Findings.{join, found_among, found_in, found_if_any}
 use Rattle.ts_crl.specs.List.{LocatedExtensions, LocatedEntry, unlocated_extensions, unlocated_entry}
 use Rattle.ts_crl.specs.Profile.{is_unprocessed, unprocessed_in, unprocessed_of_entries, names_issuer}
-use Rattle.ts_crl.specs.Reading.{extensions_of, entry_of, entry_in, revoked_of}
+use Rattle.ts_crl.specs.Reading.{located_extensions_of, entry_of, located_entry_of, revoked_of}
 use Rattle.ts_crl.specs.Rules.{rule_fault, fault_if_any, entries_fault}
 use Rattle.ts_crl.specs.Values.{is_known, entry_extensions_of}
 use Rattle.ts_crl.proofs.Walks.{many-walked}
@@ -70,12 +71,12 @@ parts-alike f g a b c d e =
     ∙ (ap (λ v. of_parts g.old_version g.repeated v f.unprocessed f.issuer) c
     ∙ (ap (λ u. of_parts g.old_version g.repeated g.value u f.issuer) d ∙ ap (λ i. of_parts g.old_version g.repeated g.value g.unprocessed i) e)))
 
-pub joined-none : (f : Findings) → joined f (findings_of []) ≡ f
-joined-none f = parts-alike (joined f (findings_of [])) f (last f.old_version) (last f.repeated) (last f.value) (last f.unprocessed) (or-last f.issuer)
+pub joined-none : (f : Findings) → join f (findings_of []) ≡ f
+joined-none f = parts-alike (join f (findings_of [])) f (last f.old_version) (last f.repeated) (last f.value) (last f.unprocessed) (or-last f.issuer)
 
-joined-three : (f g h : Findings) → joined f (joined g h) ≡ joined (joined f g) h
+joined-three : (f g h : Findings) → join f (join g h) ≡ join (join f g) h
 joined-three f g h =
-    parts-alike (joined f (joined g h)) (joined (joined f g) h)
+    parts-alike (join f (join g h)) (join (join f g) h)
     (first-of_three f.old_version g.old_version h.old_version) (first-of_three f.repeated g.repeated h.repeated) (first-of_three f.value g.value h.value)
     (first-of_three f.unprocessed g.unprocessed h.unprocessed) (or-three f.issuer g.issuer h.issuer)
 
@@ -100,13 +101,13 @@ any-append view test (x ∷ xs) ys =
     ap (λ (b : Bool). test (view x) || b) (any-append view test xs ys) ∙ or-three (test (view x)) (list_any test (map view xs)) (list_any test (map view ys))
 
 -- one more entry
-pub entry-joined : (es : List LocatedEntry) (e : LocatedEntry) (f g : Findings) → f ≡ findings_of es → g ≡ joined f (findings_of (e ∷ [])) → g ≡ findings_of (es ++ e ∷ [])
-entry-joined es e f g before now = now ∙ (ap (λ (h : Findings). joined h (findings_of (e ∷ []))) before ∙ sym append)
+pub entry-joined : (es : List LocatedEntry) (e : LocatedEntry) (f g : Findings) → f ≡ findings_of es → g ≡ join f (findings_of (e ∷ [])) → g ≡ findings_of (es ++ e ∷ [])
+entry-joined es e f g before now = now ∙ (ap (λ (h : Findings). join h (findings_of (e ∷ []))) before ∙ sym append)
   where
-    append : findings_of (es ++ e ∷ []) ≡ joined (findings_of es) (findings_of (e ∷ []))
+    append : findings_of (es ++ e ∷ []) ≡ join (findings_of es) (findings_of (e ∷ []))
     append =
         let one = e ∷ [] in
-        parts-alike (findings_of (es ++ one)) (joined (findings_of es) (findings_of one))
+        parts-alike (findings_of (es ++ one)) (join (findings_of es) (findings_of one))
         (faults-append OldVersion es one) (faults-append Repeated es one) (faults-append Values es one) (unprocessed-append es one) (any-append unlocated_entry names_issuer es one)
 
 -- what is found in an entry is what is found in its extensions
@@ -114,7 +115,9 @@ pub entry-found-by : (e : LocatedEntry) (o : Option LocatedExtensions) → e.crl
 entry-found-by e None none = rw none refl
 entry-found-by e (Some x) some =
     rw some
-    (parts-alike _ (found_in x) refl (last (rule_fault Repeated Entry x)) (last (rule_fault Values Entry x)) (last (unprocessed_in Entry (unlocated_extensions x))) (or-last (list_any (is_known CertificateIssuer) (unlocated_extensions x))))
+    (parts-alike _ (found_in x) refl (last (rule_fault Repeated Entry x))
+    (last (rule_fault Values Entry x)) (last (unprocessed_in Entry (unlocated_extensions x)))
+    (or-last (list_any (is_known CertificateIssuer) (unlocated_extensions x))))
 
 -- ---- extensions
 
@@ -137,35 +140,37 @@ oids-append (x ∷ xs) ys = by_test (oids-append xs ys) (is_unprocessed Entry (u
     by_test more false = more
 
 -- one more extension
-pub extension-joined : (xs : List Located) (x : Located) (first f g : Findings) → f ≡ joined first (found_among xs)
+pub extension-joined : (xs : List Located) (x : Located) (first f g : Findings) → f ≡ join first (found_among xs)
     → g.old_version ≡ f.old_version → g.repeated ≡ f.repeated → g.value ≡ (f.value or_else value_fault Entry x)
-    → g.unprocessed ≡ (f.unprocessed or_else unprocessed_in Entry (unlocated x ∷ [])) → g.issuer ≡ (f.issuer || is_known CertificateIssuer (unlocated x)) → g ≡ joined first (found_among (xs ++ x ∷ []))
-extension-joined xs x first f g before a b c d e = noted ∙ (ap (λ (h : Findings). joined h (found_among one)) before ∙ (sym (joined-three first (found_among xs) (found_among one)) ∙ ap (joined first) (sym append)))
+    → g.unprocessed ≡ (f.unprocessed or_else unprocessed_in Entry (unlocated x ∷ [])) → g.issuer ≡ (f.issuer || is_known CertificateIssuer (unlocated x)) → g ≡ join first (found_among (xs ++ x ∷ []))
+extension-joined xs x first f g before a b c d e = noted
+    ∙ (ap (λ (h : Findings). join h (found_among one)) before
+    ∙ (sym (joined-three first (found_among xs) (found_among one)) ∙ ap (join first) (sym append)))
   where
     one : List Located
     one = x ∷ []
 
-    noted : g ≡ joined f (found_among (x ∷ []))
+    noted : g ≡ join f (found_among (x ∷ []))
     noted =
-        parts-alike g (joined f (found_among (x ∷ [])))
+        parts-alike g (join f (found_among (x ∷ [])))
         (a ∙ sym (last f.old_version)) (b ∙ sym (last f.repeated)) (c ∙ ap (λ (o : Option CertFault). f.value or_else o) (sym (last (value_fault Entry x)))) d
         (e ∙ ap (λ (i : Bool). f.issuer || i) (sym (or-last (is_known CertificateIssuer (unlocated x)))))
 
-    append : found_among (xs ++ x ∷ []) ≡ joined (found_among xs) (found_among (x ∷ []))
+    append : found_among (xs ++ x ∷ []) ≡ join (found_among xs) (found_among (x ∷ []))
     append =
-        parts-alike (found_among (xs ++ x ∷ [])) (joined (found_among xs) (found_among (x ∷ []))) refl refl
+        parts-alike (found_among (xs ++ x ∷ [])) (join (found_among xs) (found_among (x ∷ []))) refl refl
         (values-append xs (x ∷ [])) (oids-append xs (x ∷ [])) (any-append unlocated (is_known CertificateIssuer) xs (x ∷ []))
 
 -- no extension
-pub no-extension-joined : (f : Findings) → f ≡ joined f (found_among [])
+pub no-extension-joined : (f : Findings) → f ≡ join f (found_among [])
 no-extension-joined f = sym (joined-none f)
 
 -- all of them, and what their list as a whole breaks
-pub placed-joined : (first f g : Findings) (x : LocatedExtensions) → f ≡ joined first (found_among x.extensions)
+pub placed-joined : (first f g : Findings) (x : LocatedExtensions) → f ≡ join first (found_among x.extensions)
     → g.old_version ≡ (f.old_version or_else rule_fault OldVersion Entry x) → g.repeated ≡ (f.repeated or_else rule_fault Repeated Entry x)
-    → g.value ≡ f.value → g.unprocessed ≡ f.unprocessed → g.issuer ≡ f.issuer → g ≡ joined first (found_in x)
+    → g.value ≡ f.value → g.unprocessed ≡ f.unprocessed → g.issuer ≡ f.issuer → g ≡ join first (found_in x)
 placed-joined first f g x before a b c d e =
-    parts-alike g (joined first (found_in x))
+    parts-alike g (join first (found_in x))
     (a ∙ ap (λ (o : Option CertFault). o or_else rule_fault OldVersion Entry x) (ap (λ (h : Findings). h.old_version) before ∙ last first.old_version))
     (b ∙ ap (λ (o : Option CertFault). o or_else rule_fault Repeated Entry x) (ap (λ (h : Findings). h.repeated) before ∙ last first.repeated))
     (c ∙ ap (λ (h : Findings). h.value) before) (d ∙ ap (λ (h : Findings). h.unprocessed) before) (e ∙ ap (λ (h : Findings). h.issuer) before)
@@ -183,13 +188,15 @@ one-repeats_none found x few = rw (one-unrepeated x.extensions few) (sym (last f
 -- ---- readings of parts that were read
 
 pub entry-read : (e : Tlv) (serial : List ℕ) (date : Time) (xs : Option LocatedExtensions) (p q r : Place)
-    → integer_at (inside e) ≡ Ok (serial, p) → time_at p ≡ Ok (date, q) → optional_of 0x30 extensions_of q ≡ Ok (xs, r) → end_at r ≡ Ok tt
+    → integer_at (inside e) ≡ Ok (serial, p) → time_at p ≡ Ok (date, q) → optional_of 0x30 located_extensions_of q ≡ Ok (xs, r) → end_at r ≡ Ok tt
     → entry_of e ≡ Ok (record { userCertificate = serial; revocationDate = date; crlEntryExtensions = xs })
 unfolding entry_of
 entry-read e serial date xs p q r a b c d = rw (a, b, c, d) refl
 
 -- entries that were read are those of a walk
-pub entries-walked : (e : Tlv) (es : List LocatedEntry) → revoked_of e ≡ Ok es → (refusal (revoked_of e) ≡ None) × (revoked_of e ≡ Ok (items_at entry_in (inside e))) × (es ≡ items_at entry_in (inside e))
+pub entries-walked : (e : Tlv) (es : List LocatedEntry) → revoked_of e ≡ Ok es
+    → (refusal (revoked_of e) ≡ None) × (revoked_of e ≡ Ok (items_at located_entry_of (inside e)))
+    × (es ≡ items_at located_entry_of (inside e))
 entries-walked e es read =
-    let are = many-walked entry_in (inside e) (ap (λ r. refusal r) (sym read)) in
-    (ap (λ r. refusal r) read, are, ok_is {E = Fault} es (items_at entry_in (inside e)) (sym read ∙ are))
+    let are = many-walked located_entry_of (inside e) (ap (λ r. refusal r) (sym read)) in
+    (ap (λ r. refusal r) read, are, ok_is {E = Fault} es (items_at located_entry_of (inside e)) (sym read ∙ are))

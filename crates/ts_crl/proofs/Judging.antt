@@ -34,16 +34,19 @@ use Rattle.ts_crl.specs.declared.version.ListVersion.TheVariants.{V1, V2}
 use Rattle.ts_crl.specs.declared.fault.CrlFault.{CrlFault}
 use Rattle.ts_crl.specs.Fault.{ListFault, broken, fault_in, AnswersBy}
 use Rattle.ts_crl.specs.List.{LocatedTbsList, LocatedList, CertificateList, unlocated_extensions}
-use Rattle.ts_crl.specs.Reading.{extensions_of, wrapped_extensions_of, entry_of, entry_in, revoked_of, tbs_of, signed_of, whole_of, shape_of}
-use Rattle.ts_crl.specs.Table.{is_version, version_rules, version, extensions, entry_fields, revoked_certificates, crl_extensions, tbs_fields, tbs_cert_list, certificate_list, shape_fault, list_fault, list_fault_of, crl_fault, as_list, unless_broken, crl_of}
-use Rattle.ts_crl.specs.Version.{version_named, version_of, version_if, version_at}
+use Rattle.ts_crl.specs.Reading.{located_extensions_of, wrapped_extensions_of, entry_of, located_entry_of, revoked_of, crl_tbs_of, crl_signed_of, crl_whole_of, shape_of}
+use Rattle.ts_crl.specs.Table.{is_version, version_rules, version, extensions_row as extensions}
+use Rattle.ts_crl.specs.Table.{entry_fields, revoked_certificates, crl_extensions, tbs_fields}
+use Rattle.ts_crl.specs.Table.{tbs_cert_list, certificate_list, shape_fault, list_fault}
+use Rattle.ts_crl.specs.Table.{list_fault_of, crl_fault, as_list, unless_broken, crl_of}
+use Rattle.ts_crl.specs.Version.{crl_version_named, crl_version_of, crl_version_if, crl_version_at}
 use Rattle.ts_crl.proofs.Saying.{say}
 use Rattle.ts_crl.proofs.EntryParts.{extensions-unlocated, wrapped-unlocated}
 use Rattle.ts_crl.proofs.Updates.{update-judged}
 
 -- ---- the version
 
-named-judged : (at : ℕ) (content : List ℕ) → Judged (version_named at content) (option_map (breaks at) (one_rule Version (λ c. not (is_version c)) content)) (λ v. Unit {0})
+named-judged : (at : ℕ) (content : List ℕ) → Judged (crl_version_named at content) (option_map (breaks at) (one_rule Version (λ c. not (is_version c)) content)) (λ v. Unit {0})
 named-judged at [] = refl
 named-judged at (octet ∷ []) = by_test (eqb octet 1)
   where
@@ -52,13 +55,15 @@ named-judged at (octet ∷ []) = by_test (eqb octet 1)
     by_test false = refl
 named-judged at (octet ∷ next ∷ content) = refl
 
-number-judged : (e : Tlv) → Judged (version_of e) (judge plain (inside e) or_else option_map (breaks e.at) (version_rules e.content)) (λ v. Unit {0})
-unfolding version_of
+number-judged : (e : Tlv) → Judged (crl_version_of e) (judge plain (inside e) or_else option_map (breaks e.at) (version_rules e.content)) (λ v. Unit {0})
+unfolding crl_version_of
 number-judged e =
-    subst (λ o. Judged (der (value_at integer_rules (λ c. c) e) >>= λ content. version_named e.at content) o (λ v. Unit {0}))
+    subst (λ o. Judged (der (value_at integer_rules (λ c. c) e) >>= λ content. crl_version_named e.at content) o (λ v. Unit {0}))
     (spread (der_rules integer_rules e.content) (one_rule Version (λ c. not (is_version c)) e.content))
-    (bind (der (value_at integer_rules (λ c. c) e)) (λ content. version_named e.at content) _ _ _ _ (value-judged integer_rules (λ c. c) e) (λ content p.
-    subst (λ (c : List ℕ). Judged (version_named e.at c) (option_map (breaks e.at) (one_rule Version (λ c. not (is_version c)) e.content)) (λ v. Unit {0})) (sym p.0) (named-judged e.at e.content)))
+    (bind (der (value_at integer_rules (λ c. c) e)) (λ content. crl_version_named e.at content) _ _ _ _ (value-judged integer_rules (λ c. c) e) (λ content p.
+    subst (λ (c : List ℕ). Judged (crl_version_named e.at c)
+    (option_map (breaks e.at) (one_rule Version (λ c. not (is_version c)) e.content))
+    (λ v. Unit {0})) (sym p.0) (named-judged e.at e.content)))
   where
     spread : (a b : Option CertRule) → (option_map (breaks e.at) a or_else option_map (breaks e.at) b) ≡ option_map (breaks e.at) (a or_else b)
     spread (Some k) b = refl
@@ -73,13 +78,13 @@ that_stands x = Ok (Some x.0, x.1)
 -- a version, where one is
 version-then : {B : Type 0} (others : Shape) (here : Place) (f : ListVersion × Place → Result B CertFault) (Q : B → Type 0)
     → ((v : ListVersion) (after : Place) → Judged (f (v, after)) (judge others after) Q)
-    → Judged (version_at here >>= f) (judge (optional version then others) here) Q
-unfolding version_at optional_at
+    → Judged (crl_version_at here >>= f) (judge (optional version then others) here) Q
+unfolding crl_version_at optional_at
 version-then {B} others here f Q k = by_start (begins_with 0x02 here.rest)
   where
     flat : (r : Result (Tlv × Place) Fault)
-        → ((der (r >>= λ x. that_stands x) >>= λ e. version_if e.0 >>= λ version. beside e.1 version) >>= f) ≡ (der r >>= λ x. version_of x.0 >>= λ v. f (v, x.1))
-    flat (Ok x) = by_version (version_of x.0)
+        → ((der (r >>= λ x. that_stands x) >>= λ e. crl_version_if e.0 >>= λ version. beside e.1 version) >>= f) ≡ (der r >>= λ x. crl_version_of x.0 >>= λ v. f (v, x.1))
+    flat (Ok x) = by_version (crl_version_of x.0)
       where
         by_version : (r : Result ListVersion CertFault) → ((r >>= λ version. beside x.1 version) >>= f) ≡ (r >>= λ v. f (v, x.1))
         by_version (Ok v) = refl
@@ -87,11 +92,13 @@ version-then {B} others here f Q k = by_start (begins_with 0x02 here.rest)
     flat (Err d) = refl
 
     by_start : (b : Bool)
-        → Judged ((der (cond {A = Result (Option Tlv × Place) Fault} b (element_at 0x02 here >>= λ x. Ok (Some x.0, x.1)) (Ok (None, here))) >>= λ e. version_if e.0 >>= λ version. beside e.1 version) >>= f)
+        → Judged ((der (cond {A = Result (Option Tlv × Place) Fault} b
+        (element_at 0x02 here >>= λ x. Ok (Some x.0, x.1)) (Ok (None, here))) >>= λ e.
+        crl_version_if e.0 >>= λ version. beside e.1 version) >>= f)
         (cond (not (b || false)) (judge others here) (header_fault here or_else row_fault version (element_of here) or_else judge others (behind here))) Q
     by_start true =
         subst (λ r. Judged r (header_fault here or_else row_fault version (element_of here) or_else judge others (behind here)) Q) (sym (flat (element_at 0x02 here)))
-        (element-judged 0x02 plain version_rules here version_of (λ x v. f (v, x.1)) (judge others (behind here)) _ Q
+        (element-judged 0x02 plain version_rules here crl_version_of (λ x v. f (v, x.1)) (judge others (behind here)) _ Q
         (number-judged (element_of here)) (λ v h t p. k v (behind here)))
     by_start false = k V1 here
 
@@ -102,9 +109,9 @@ unsaid : {A B : Type 0} (f : A → B) (r : Result A Fault) (o : Option CertFault
 unsaid f (Ok x) o j = (j.0, tt)
 unsaid f (Err d) o j = j
 
-extensions-judged : (e : Tlv) → Judged (der (extensions_of e)) (judge extension_items (inside e) or_else option_map (breaks e.at) (list_rules e.content)) (λ x. Unit {0})
+extensions-judged : (e : Tlv) → Judged (der (located_extensions_of e)) (judge extension_items (inside e) or_else option_map (breaks e.at) (list_rules e.content)) (λ x. Unit {0})
 extensions-judged e =
-    unsaid unlocated_extensions (extensions_of e) _
+    unsaid unlocated_extensions (located_extensions_of e) _
     (subst (λ r. Judged (der r) (judge extension_items (inside e) or_else option_map (breaks e.at) (list_rules e.content)) (λ x. Unit {0})) (extensions-unlocated e) (extensions-format.judged e))
 
 wrapped-judged : (e : Tlv) → Judged (der (wrapped_extensions_of e)) (judge (extensions then nothing) (inside e) or_else None) (λ x. Unit {0})
@@ -123,26 +130,33 @@ entry-judged e =
     (then-judged integer (time then optional extensions then nothing) (inside e) (λ here. der (integer_at here)) _ Whatever _ refl integer-reads (λ serial p.
     under (time_at (behind (inside e))) _ _ _
     (then-judged time (optional extensions then nothing) (behind (inside e)) (λ here. der (time_at here)) _ Whatever _ refl time-reads (λ date q.
-    under (optional_of 0x30 extensions_of (behind (behind (inside e)))) _ _ _
-    (optional-judged 0x30 extension_items list_rules nothing (behind (behind (inside e))) extensions_of _ Whatever (λ x. Unit {0}) extensions-judged (λ x after. ends after _ _ (λ h. tt))))))))
+    under (optional_of 0x30 located_extensions_of (behind (behind (inside e)))) _ _ _
+    (optional-judged 0x30 extension_items list_rules nothing (behind (behind (inside e))) located_extensions_of _ Whatever (λ x. Unit {0}) extensions-judged (λ x after. ends after _ _ (λ h. tt))))))))
 
 revoked-judged : (e : Tlv) → Judged (der (revoked_of e)) (judge (items (sequence entry_fields)) (inside e) or_else None) (λ xs. Unit {0})
 unfolding many
 revoked-judged e =
     no_more _ _ _
     (weaker _ _ _ _ (λ x p. tt)
-    (items-judged (sequence entry_fields) (each entry_in) Whatever (tag-reads 0x30 entry_fields no_rules entry_of Whatever (λ x. entry-judged x)) (length e.content) (inside e)))
+    (items-judged (sequence entry_fields) (each located_entry_of) Whatever (tag-reads 0x30 entry_fields no_rules entry_of Whatever (λ x. entry-judged x)) (length e.content) (inside e)))
 
 -- ---- the whole
 
-tbs-judged : (e : Tlv) → Judged (tbs_of e) (judge tbs_fields (inside e) or_else None) (λ t. Unit {0})
-unfolding tbs_of
+tbs-judged : (e : Tlv) → Judged (crl_tbs_of e) (judge tbs_fields (inside e) or_else None) (λ t. Unit {0})
+unfolding crl_tbs_of
 tbs-judged e =
     no_more _ _ _
     (version-then (algorithm_identifier then name then time then optional time then optional revoked_certificates then optional crl_extensions then nothing) (inside e) _ All (λ version at1.
-    then-judged algorithm_identifier (name then time then optional time then optional revoked_certificates then optional crl_extensions then nothing) at1 (λ here. der (algorithm_at here)) _ (λ e a. a.whole ≡ e.whole) All refl algorithm-reads (λ signature p2.
-    then-judged name (time then optional time then optional revoked_certificates then optional crl_extensions then nothing) (behind at1) (λ here. der (name_at here)) _ Whatever All refl name-reads (λ issuer p3.
-    then-judged time (optional time then optional revoked_certificates then optional crl_extensions then nothing) (behind (behind at1)) (λ here. der (time_at here)) _ Whatever All refl time-reads (λ this p4.
+    then-judged algorithm_identifier
+    (name then time then optional time then optional revoked_certificates then optional
+    crl_extensions then nothing) at1 (λ here. der (algorithm_at here)) _ (λ e a. a.whole ≡ e.whole)
+    All refl algorithm-reads (λ signature p2.
+    then-judged name (time then optional time then optional revoked_certificates then optional
+    crl_extensions then nothing) (behind at1) (λ here. der (name_at here)) _ Whatever All refl
+    name-reads (λ issuer p3.
+    then-judged time (optional time then optional revoked_certificates then optional
+    crl_extensions then nothing) (behind (behind at1)) (λ here. der (time_at here)) _ Whatever All
+    refl time-reads (λ this p4.
     update-judged (optional revoked_certificates then optional crl_extensions then nothing) (behind (behind (behind at1))) _ All (λ next at5.
     optional-judged 0x30 (items (sequence entry_fields)) no_rules (optional crl_extensions then nothing) at5 revoked_of _ Whatever All revoked-judged (λ revoked at6.
     optional-judged 0xA0 (extensions then nothing) no_rules nothing at6 wrapped_extensions_of _ Whatever All wrapped-judged (λ extensions at7.
@@ -152,12 +166,14 @@ tbs-judged e =
     All : LocatedTbsList → Type 0
     All t = Unit {0}
 
-signed-judged : (e : Tlv) → Judged (signed_of e) (judge (tbs_cert_list then algorithm_identifier then bit_string then nothing) (inside e) or_else None) (λ l. Unit {0})
-unfolding signed_of
+signed-judged : (e : Tlv) → Judged (crl_signed_of e) (judge (tbs_cert_list then algorithm_identifier then bit_string then nothing) (inside e) or_else None) (λ l. Unit {0})
+unfolding crl_signed_of
 signed-judged e =
     no_more _ _ _
-    (element-judged 0x30 tbs_fields no_rules (inside e) tbs_of _ _ (λ t. Unit {0}) All (tbs-judged (element_of (inside e))) (λ fields h1 t1 p1.
-    element-judged 0x30 (object_identifier then optional any then nothing) no_rules (behind (inside e)) (λ x. der (algorithm_of x)) _ _ _ All (algorithm-judged (element_of (behind (inside e)))) (λ algorithm h2 t2 p2.
+    (element-judged 0x30 tbs_fields no_rules (inside e) crl_tbs_of _ _ (λ t. Unit {0}) All (tbs-judged (element_of (inside e))) (λ fields h1 t1 p1.
+    element-judged 0x30 (object_identifier then optional any then nothing) no_rules
+    (behind (inside e)) (λ x. der (algorithm_of x)) _ _ _ All
+    (algorithm-judged (element_of (behind (inside e)))) (λ algorithm h2 t2 p2.
     then-judged bit_string nothing (behind (behind (inside e))) (λ here. der (bits_at here)) _ Whatever All refl bits-reads (λ signature p.
     no_less _ _ _
     (end-judged (behind (behind (behind (inside e)))) _ None All (λ done. (refl, tt)))))))
@@ -165,10 +181,12 @@ signed-judged e =
     All : LocatedList → Type 0
     All l = Unit {0}
 
-whole-judged : (octets : List ℕ) → Judged (whole_of octets) (judge (certificate_list then nothing) (from_front octets)) (λ l. Unit {0})
-unfolding whole_of
+whole-judged : (octets : List ℕ) → Judged (crl_whole_of octets) (judge (certificate_list then nothing) (from_front octets)) (λ l. Unit {0})
+unfolding crl_whole_of
 whole-judged octets =
-    element-judged 0x30 (tbs_cert_list then algorithm_identifier then bit_string then nothing) no_rules (from_front octets) signed_of (λ e l. der (end_at e.1) >>= λ done. Ok l) (judge nothing (behind (from_front octets))) (λ l. Unit {0}) (λ l. Unit {0})
+    element-judged 0x30 (tbs_cert_list then algorithm_identifier then bit_string then nothing)
+    no_rules (from_front octets) crl_signed_of (λ e l. der (end_at e.1) >>= λ done. Ok l)
+    (judge nothing (behind (from_front octets))) (λ l. Unit {0}) (λ l. Unit {0})
     (signed-judged (element_of (from_front octets))) (λ l h t p.
     no_less _ _ _
     (end-judged (behind (from_front octets)) (λ done. Ok l) None (λ l. Unit {0}) (λ e. (refl, tt))))
@@ -177,7 +195,9 @@ shape-judged : (octets : List ℕ) → Judged (shape_of octets) (shape_fault oct
 unfolding shape_of
 shape-judged octets = by_size (nat_lt 4194304 (length octets))
   where
-    by_size : (b : Bool) → Judged (cond b (Err (breaks 0 (Der TooLarge))) (whole_of octets)) (cond b (Some (breaks 0 (Der TooLarge))) (judge (certificate_list then nothing) (from_front octets))) (λ l. Unit {0})
+    by_size : (b : Bool) → Judged (cond b (Err (breaks 0 (Der TooLarge))) (crl_whole_of octets))
+        (cond b (Some (breaks 0 (Der TooLarge)))
+        (judge (certificate_list then nothing) (from_front octets))) (λ l. Unit {0})
     by_size true = refl
     by_size false = whole-judged octets
 
@@ -197,11 +217,15 @@ judged octets = by_shape (shape_of octets) (shape_fault octets) (shape-judged oc
 
 -- ---- a call that answers what reading gives
 
-pub fault-judged : {X : Type 0} (view : X → CertificateList) (result : Result X CrlFault) (octets : List ℕ) → AnswersBy view fault_in result (crl_of octets) → option_map fault_in (refusal result) ≡ crl_fault octets
+pub fault-judged : {X : Type 0} (view : X → CertificateList) (result : Result X CrlFault)
+    (octets : List ℕ) → AnswersBy view fault_in result (crl_of octets)
+    → option_map fault_in (refusal result) ≡ crl_fault octets
 fault-judged view (Ok x) octets a = ap (λ (r : Result CertificateList ListFault). refusal r) (sym a) ∙ judged octets
 fault-judged view (Err f) octets a = ap (λ (r : Result CertificateList ListFault). refusal r) (sym a) ∙ judged octets
 
-pub found-by : {X Y E F : Type 0} (view : X → Y) (see : E → F) (r : Result X E) (reading : Result Y F) (P : Y → Type 0) → AnswersBy view see r reading → ((y : Y) → reading ≡ Ok y → P y) → IfOk r (λ x. P (view x))
+pub found-by : {X Y E F : Type 0} (view : X → Y) (see : E → F) (r : Result X E)
+    (reading : Result Y F) (P : Y → Type 0) → AnswersBy view see r reading
+    → ((y : Y) → reading ≡ Ok y → P y) → IfOk r (λ x. P (view x))
 found-by view see (Ok x) reading P a f = f (view x) a
 found-by view see (Err e) reading P a f = tt
 

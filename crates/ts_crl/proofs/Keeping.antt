@@ -18,7 +18,7 @@ use Rattle.ts_crl.specs.declared.version.ListVersion.{ListVersion}
 use Rattle.ts_crl.specs.declared.version.ListVersion.TheVariants.{V1, V2}
 use Rattle.ts_crl.specs.List.{LocatedExtensions, LocatedEntry, LocatedList, unlocated_extensions, unlocated_entry, unlocated_list}
 use Rattle.ts_crl.specs.Values.{is_known, with_number, located_with_number}
-use Rattle.ts_crl.specs.Rules.{as_ruled, located_as_ruled, rule_fault, fault_if_any, entries_fault, fault_by_place, version_fault, Keeps, KeepsIfAny, EntriesKeep, AllKeep, FitVersion}
+use Rattle.ts_crl.specs.Rules.{as_ruled, located_as_ruled, rule_fault, fault_if_any, entries_fault, fault_by_place, crl_version_fault, Keeps, KeepsIfAny, EntriesKeep, AllKeep, FitVersion}
 use Rattle.ts_crl.proofs.Readiness.{Ready, IfReady, EntriesReady, ReadyTbs}
 
 pub neither : {A : Type 0} (a b : Option A) → (a or_else b) ≡ None → (a ≡ None) × (b ≡ None)
@@ -40,7 +40,9 @@ unlocated-repeated seen [] = refl
 unlocated-repeated seen (x ∷ xs) = by_test (unlocated-repeated (x.extnID ∷ seen) xs) (is_among x.extnID seen)
   where
     by_test : first_repeated (λ x. x.extnID) (x.extnID ∷ seen) (map unlocated xs) ≡ option_map unlocated (first_repeated (λ x. x.extnID) (x.extnID ∷ seen) xs)
-        → (b : Bool) → cond b (Some (unlocated x)) (first_repeated (λ x. x.extnID) (x.extnID ∷ seen) (map unlocated xs)) ≡ option_map unlocated (cond b (Some x) (first_repeated (λ x. x.extnID) (x.extnID ∷ seen) xs))
+        → (b : Bool) → cond b (Some (unlocated x))
+        (first_repeated (λ x. x.extnID) (x.extnID ∷ seen) (map unlocated xs)) ≡ option_map
+        unlocated (cond b (Some x) (first_repeated (λ x. x.extnID) (x.extnID ∷ seen) xs))
     by_test more true = refl
     by_test more false = more
 
@@ -79,7 +81,9 @@ kept-one Values Certificate x ready e = are-sound Certificate x.extensions ready
 keeps-one : (rule : ExtensionRule) (holder : Holder) (x : LocatedExtensions) → Keeps rule holder (unlocated_extensions x) → rule_fault rule holder x ≡ None
 keeps-one OldVersion holder x keeps = absurd keeps
 keeps-one Repeated holder x keeps =
-    ap (λ (o : Option Located). option_map (λ r. breaks r.at DuplicateExtension) o) (unmapped unlocated (first_repeated (λ r. r.extnID) [] x.extensions) (sym (unlocated-repeated [] x.extensions) ∙ keeps))
+    ap (λ (o : Option Located). option_map (λ r. breaks r.at DuplicateExtension) o)
+    (unmapped unlocated (first_repeated (λ r. r.extnID) [] x.extensions)
+    (sym (unlocated-repeated [] x.extensions) ∙ keeps))
 keeps-one Values ListHolder x keeps = no-fault ListHolder (map located_as_ruled x.extensions) (subst (AreValid ListHolder) (sym (unlocated-ruled x.extensions)) keeps)
 keeps-one Values Entry x keeps = no-fault Entry x.extensions keeps
 keeps-one Values Certificate x keeps = no-fault Certificate x.extensions keeps
@@ -124,10 +128,10 @@ all-keep rule l keeps =
     both (entries_fault rule (unwrap_or l.tbsCertList.revokedCertificates [])) (fault_if_any rule ListHolder l.tbsCertList.crlExtensions)
     (keeps-entries-if-any rule l.tbsCertList.revokedCertificates keeps.0) (keeps-if-any rule ListHolder l.tbsCertList.crlExtensions keeps.1)
 
-pub version-kept : (v : ListVersion) (l : LocatedList) → ReadyTbs l.tbsCertList → version_fault v l ≡ None → FitVersion v (unlocated_list l)
+pub version-kept : (v : ListVersion) (l : LocatedList) → ReadyTbs l.tbsCertList → crl_version_fault v l ≡ None → FitVersion v (unlocated_list l)
 version-kept V1 l ready e = all-kept OldVersion l ready e
 version-kept V2 l ready e = tt
 
-pub version-keeps : (v : ListVersion) (l : LocatedList) → FitVersion v (unlocated_list l) → version_fault v l ≡ None
+pub version-keeps : (v : ListVersion) (l : LocatedList) → FitVersion v (unlocated_list l) → crl_version_fault v l ≡ None
 version-keeps V1 l keeps = all-keep OldVersion l keeps
 version-keeps V2 l keeps = refl

@@ -23,12 +23,12 @@ use Rattle.ts_crl.specs.declared.extension_rule.ExtensionRule.TheVariants.{OldVe
 use Rattle.ts_crl.specs.Entries.{entries_of}
 use Rattle.ts_crl.specs.Fault.{ListFault, broken, criticalCrlExtension, indirect}
 use Rattle.ts_crl.specs.Findings.{findings_of}
-use Rattle.ts_crl.specs.Kept.{first_place, only_place, HavePlace, EntriesRead, SignedRead, WasRead}
+use Rattle.ts_crl.specs.inside.Kept.{first_place, only_place, HavePlace, EntriesRead, SignedRead, WasRead}
 use Rattle.ts_crl.specs.List.{LocatedEntry, LocatedList, CertificateList, unlocated_entry, unlocated_list}
 use Rattle.ts_crl.specs.OwnedView.{list_of, no_list}
-use Rattle.ts_crl.specs.Profile.{profile_fault, unprocessed, unprocessed_of_entries, names_issuer, is_indirect}
-use Rattle.ts_crl.specs.Reading.{entry_in, revoked_of, signed_of, whole_of, shape_of}
-use Rattle.ts_crl.specs.Rules.{entries_fault, fault_by_place, version_fault, algorithms_fault, placed_fault}
+use Rattle.ts_crl.specs.Profile.{profile_fault, first_unprocessed, unprocessed_of_entries, names_issuer, is_indirect}
+use Rattle.ts_crl.specs.Reading.{located_entry_of, revoked_of, crl_signed_of, crl_whole_of, shape_of}
+use Rattle.ts_crl.specs.Rules.{entries_fault, fault_by_place, crl_version_fault, crl_algorithms_fault, placed_fault}
 use Rattle.ts_crl.specs.Table.{list_fault, as_list, unless_broken, crl_fault, crl_of}
 use Rattle.ts_crl.proofs.Joining.{entries-walked}
 use Rattle.ts_crl.proofs.Judging.{judged}
@@ -67,7 +67,9 @@ name-again here e after stood ok = ap with_names stood ∙ by_read (many rdn_at 
 abbrev some_beside : {A : Type 0} → Place → Result A Fault → Result (Option A × Place) Fault
 some_beside after r = r >>= λ x. Ok (Some x, after)
 
-pub optional-is : {A : Type 0} (tag : ℕ) (value : Tlv → Result A Fault) (here : Place) (o : Option Tlv) (e : Tlv) (after : Place) → optional_at tag here ≡ Ok (o, after) → o ≡ Some e → optional_of tag value here ≡ some_beside after (value e)
+pub optional-is : {A : Type 0} (tag : ℕ) (value : Tlv → Result A Fault) (here : Place)
+    (o : Option Tlv) (e : Tlv) (after : Place) → optional_at tag here ≡ Ok (o, after) → o ≡ Some e
+    → optional_of tag value here ≡ some_beside after (value e)
 unfolding optional_at optional_of
 optional-is {A} tag value here o e after stood some = by_start (begins_with tag here.rest) stood
   where
@@ -95,18 +97,21 @@ optional-is {A} tag value here o e after stood some = by_start (begins_with tag 
 
 -- entries that were read, and what was found in them
 pub entries-kept : (first : Option CertFault) (here : Place) (o : Option Tlv) (e : Tlv) (after : Place) → optional_at 0x30 here ≡ Ok (o, after) → o ≡ Some e → EntriesRead first here
-    → (revoked_of e ≡ Ok (items_at entry_in (inside e))) × (findings_of (items_at entry_in (inside e)) ≡ only_place first)
+    → (revoked_of e ≡ Ok (items_at located_entry_of (inside e))) × (findings_of (items_at located_entry_of (inside e)) ≡ only_place first)
 entries-kept first here o e after stood some (x, read, found) =
     let b = bind_ok (revoked_of e) (λ es. beside_some es) x (sym (optional-is 0x30 revoked_of here o e after stood some) ∙ read) in
     let walked = entries-walked e b.0 b.1 in
-    let there : HavePlace first (Some b.0) = subst (λ (y : Option (List LocatedEntry) × Place). HavePlace first y.0) (sym (ok_is {A = Option (List LocatedEntry) × Place} {E = Fault} (Some b.0, after) x b.2)) found in
+    let there : HavePlace first (Some b.0) =
+    subst (λ (y : Option (List LocatedEntry) × Place). HavePlace first y.0)
+    (sym (ok_is {A = Option (List LocatedEntry) × Place} {E = Fault} (Some b.0, after) x b.2))
+    found in
     (walked.1, ap findings_of (sym walked.2) ∙ there)
   where
     beside_some : List LocatedEntry → Result (Option (List LocatedEntry) × Place) Fault
     beside_some es = Ok (Some es, after)
 
 pub entries-again : (first : Option CertFault) (here : Place) (o : Option Tlv) (e : Tlv) (after : Place) → optional_at 0x30 here ≡ Ok (o, after) → o ≡ Some e → EntriesRead first here
-    → optional_of 0x30 revoked_of here ≡ Ok (Some (items_at entry_in (inside e)), after)
+    → optional_of 0x30 revoked_of here ≡ Ok (Some (items_at located_entry_of (inside e)), after)
 entries-again first here o e after stood some was =
     optional-is 0x30 revoked_of here o e after stood some ∙ ap (some_beside after) (entries-kept first here o e after stood some was).0
 
@@ -126,13 +131,18 @@ pub extensions-kept : (e inner set : Tlv) (after : Place) → next_at (inside e)
     → some_of located_in set ≡ Ok (items_at located_in (inside set))
 unfolding alone each of_tag
 extensions-kept e inner set after stood tagged ok =
-    some-walked located_in set (sym (by_read (some_of located_in set) (subst (λ (r : Result Tlv Fault). IsOk (at_end (beside after (as_items r)))) tagged (subst (λ (r : Result (Tlv × Place) Fault). IsOk (at_end (in_next r))) stood ok))))
+    some-walked located_in set
+    (sym (by_read (some_of located_in set)
+    (subst (λ (r : Result Tlv Fault). IsOk (at_end (beside after (as_items r)))) tagged
+    (subst (λ (r : Result (Tlv × Place) Fault). IsOk (at_end (in_next r))) stood ok))))
   where
     by_read : (r : Result (List Located) Fault) → IsOk (at_end (beside after r)) → refusal r ≡ None
     by_read (Ok y) ok = refl
     by_read (Err f) ok = absurd cc
 
-pub extensions-again : (e inner set : Tlv) (after : Place) → next_at (inside e) ≡ Ok (inner, after) → tagged_as 0x30 inner ≡ Ok set → (done : Unit {0}) → end_at after ≡ Ok done → IsOk (alone (of_tag 0x30 (some_of located_in)) e)
+pub extensions-again : (e inner set : Tlv) (after : Place) → next_at (inside e) ≡ Ok (inner, after)
+    → tagged_as 0x30 inner ≡ Ok set → (done : Unit {0}) → end_at after ≡ Ok done
+    → IsOk (alone (of_tag 0x30 (some_of located_in)) e)
     → alone (of_tag 0x30 (some_of located_in)) e ≡ Ok (items_at located_in (inside set))
 unfolding alone each of_tag
 extensions-again e inner set after stood tagged done end ok =
@@ -144,20 +154,23 @@ extensions-again e inner set after stood tagged done end ok =
 -- ---- a list
 
 -- where the whole was read, so was what is signed
-pub signed-kept : (first : Option CertFault) (octets : List ℕ) (here : Place) (e : Tlv) (after : Place) → here ≡ record { rest = octets; at = 0 } → element_at 0x30 here ≡ Ok (e, after) → (l : LocatedList) → whole_of octets ≡ Ok l → HavePlace first l.tbsCertList.revokedCertificates → SignedRead first e
-unfolding whole_of
+pub signed-kept : (first : Option CertFault) (octets : List ℕ) (here : Place) (e : Tlv)
+    (after : Place) → here ≡ record { rest = octets; at = 0 } → element_at 0x30 here ≡ Ok (e, after)
+    → (l : LocatedList) → crl_whole_of octets ≡ Ok l
+    → HavePlace first l.tbsCertList.revokedCertificates → SignedRead first e
+unfolding crl_whole_of
 signed-kept first octets here e after front stood l read found =
-    let b = bind_ok (der (element_at 0x30 (record { rest = octets; at = 0 }))) (λ x. signed_of x.0 >>= λ signed. der (end_at x.1) >>= λ done. Ok signed) l read in
+    let b = bind_ok (der (element_at 0x30 (record { rest = octets; at = 0 }))) (λ x. crl_signed_of x.0 >>= λ signed. der (end_at x.1) >>= λ done. Ok signed) l read in
     let same : (e, after) ≡ b.0 = ok_is {A = Tlv × Place} {E = CertFault} (e, after) b.0 (ap der (sym stood ∙ ap (element_at 0x30) front) ∙ b.1) in
-    let s = bind_ok (signed_of b.0.0) (λ signed. der (end_at b.0.1) >>= λ done. Ok signed) l b.2 in
+    let s = bind_ok (crl_signed_of b.0.0) (λ signed. der (end_at b.0.1) >>= λ done. Ok signed) l b.2 in
     let d = bind_ok (der (end_at b.0.1)) (λ done. Ok s.0) l s.2 in
-    (s.0, ap (λ (p : Tlv × Place). signed_of p.0) same ∙ s.1, subst (λ (x : LocatedList). HavePlace first x.tbsCertList.revokedCertificates) (sym (ok_is {E = CertFault} s.0 l d.2)) found)
+    (s.0, ap (λ (p : Tlv × Place). crl_signed_of p.0) same ∙ s.1, subst (λ (x : LocatedList). HavePlace first x.tbsCertList.revokedCertificates) (sym (ok_is {E = CertFault} s.0 l d.2)) found)
 
-pub whole-kept : (octets : List ℕ) (l : LocatedList) → shape_of octets ≡ Ok l → whole_of octets ≡ Ok l
+pub whole-kept : (octets : List ℕ) (l : LocatedList) → shape_of octets ≡ Ok l → crl_whole_of octets ≡ Ok l
 unfolding shape_of
 whole-kept octets l read = by_size (nat_lt 4194304 (length octets)) read
   where
-    by_size : (b : Bool) → cond b (Err (breaks 0 (Der TooLarge))) (whole_of octets) ≡ Ok l → whole_of octets ≡ Ok l
+    by_size : (b : Bool) → cond b (Err (breaks 0 (Der TooLarge))) (crl_whole_of octets) ≡ Ok l → crl_whole_of octets ≡ Ok l
     by_size true e = absurd cc
     by_size false e = e
 
@@ -172,12 +185,12 @@ list-is first octets w =
 pub read-list : (first : Option CertFault) (octets : List ℕ) → (w : WasRead first octets) → list_of octets ≡ unlocated_list w.list
 read-list first octets w = ap (λ (r : Result CertificateList ListFault). result_unwrap_or r no_list) (list-is first octets w)
 
-pub lent-is : (first : Option CertFault) (octets lent : List ℕ) → lent ≡ octets → WasRead first octets → (l : LocatedList) → whole_of lent ≡ Ok l → crl_of octets ≡ Ok (unlocated_list l)
+pub lent-is : (first : Option CertFault) (octets lent : List ℕ) → lent ≡ octets → WasRead first octets → (l : LocatedList) → crl_whole_of lent ≡ Ok l → crl_of octets ≡ Ok (unlocated_list l)
 lent-is first octets lent same w l read =
-    list-is first octets w ∙ ap (λ (x : LocatedList). Ok (unlocated_list x)) (ok_is {E = CertFault} w.list l (sym (whole-kept octets w.list w.shape) ∙ (ap whole_of (sym same) ∙ read)))
+    list-is first octets w ∙ ap (λ (x : LocatedList). Ok (unlocated_list x)) (ok_is {E = CertFault} w.list l (sym (whole-kept octets w.list w.shape) ∙ (ap crl_whole_of (sym same) ∙ read)))
 
-pub never-lent : (first : Option CertFault) (octets lent : List ℕ) (f : CertFault) → lent ≡ octets → WasRead first octets → whole_of lent ≡ Err f → ⊥
-never-lent first octets lent f same w refused = err_not_ok {E = CertFault} (sym refused ∙ (ap whole_of same ∙ whole-kept octets w.list w.shape))
+pub never-lent : (first : Option CertFault) (octets lent : List ℕ) (f : CertFault) → lent ≡ octets → WasRead first octets → crl_whole_of lent ≡ Err f → ⊥
+never-lent first octets lent f same w refused = err_not_ok {E = CertFault} (sym refused ∙ (ap crl_whole_of same ∙ whole-kept octets w.list w.shape))
 
 -- ---- what was found in the entries of a list that breaks no rule
 
@@ -193,18 +206,22 @@ pub quiet : (l : LocatedList) → list_fault l ≡ None → HavePlace (first_pla
 quiet l unbroken =
     let c = unlocated_list l in
     let rules = neither (option_map (λ f. broken f) (placed_fault l)) (profile_fault c) unbroken in
-    let values = neither (algorithms_fault l or_else version_fault l.tbsCertList.version l or_else fault_by_place Repeated l) (fault_by_place Values l) (unmapped (λ f. broken f) (placed_fault l) rules.0) in
-    let repeats = neither (algorithms_fault l or_else version_fault l.tbsCertList.version l) (fault_by_place Repeated l) values.0 in
+    let values = neither (crl_algorithms_fault l or_else crl_version_fault l.tbsCertList.version l
+    or_else fault_by_place Repeated l) (fault_by_place Values l)
+    (unmapped (λ f. broken f) (placed_fault l) rules.0) in
+    let repeats = neither (crl_algorithms_fault l or_else crl_version_fault l.tbsCertList.version l) (fault_by_place Repeated l) values.0 in
     let numbered = neither _ _ rules.1 in
     let relative = neither _ _ numbered.0 in
     let indirects = neither _ _ relative.0 in
     let criticals = neither _ _ indirects.0 in
-    let processed = neither _ (unprocessed_of_entries (entries_of c)) (unmapped (λ oid. criticalCrlExtension oid) (unprocessed c) criticals.1) in
+    let processed = neither _ (unprocessed_of_entries (entries_of c)) (unmapped (λ oid. criticalCrlExtension oid) (first_unprocessed c) criticals.1) in
     let own = last-false _ (list_any names_issuer (entries_of c)) (none-false (is_indirect c) indirect indirects.1) in
     by_entries l.tbsCertList.revokedCertificates (neither _ _ repeats.1).0 (neither _ _ values.1).0 processed.1 own
   where
     by_entries : (o : Option (List LocatedEntry)) → entries_fault Repeated (unwrap_or o []) ≡ None → entries_fault Values (unwrap_or o []) ≡ None
-        → unprocessed_of_entries (unwrap_or (option_map (map unlocated_entry) o) []) ≡ None → list_any names_issuer (unwrap_or (option_map (map unlocated_entry) o) []) ≡ false → HavePlace (first_place o) o
+        → unprocessed_of_entries (unwrap_or (option_map (map unlocated_entry) o) []) ≡ None
+        → list_any names_issuer (unwrap_or (option_map (map unlocated_entry) o) []) ≡ false
+        → HavePlace (first_place o) o
     by_entries None r v u n = tt
     by_entries (Some es) r v u n = λ i. record { old_version = entries_fault OldVersion es; repeated = r i; value = v i; unprocessed = u i; issuer = n i }
 

@@ -12,7 +12,7 @@ use Rattle.ts_crl.specs.declared.extension_rule.ExtensionRule.TheVariants.{Repea
 use Rattle.ts_crl.specs.declared.version.ListVersion.TheVariants.{V2}
 use Rattle.ts_crl.specs.Entries.{entries_of}
 use Rattle.ts_crl.specs.List.{LocatedList, RevokedCertificate, unlocated_list}
-use Rattle.ts_crl.specs.Rules.{as_ruled, fault_by_place, algorithms_fault, version_fault, placed_fault, KeepsIfAny, EntriesKeep}
+use Rattle.ts_crl.specs.Rules.{as_ruled, fault_by_place, crl_algorithms_fault, crl_version_fault, placed_fault, KeepsIfAny, EntriesKeep}
 use Rattle.ts_crl.proofs.Keeping.{both, all-keep}
 
 -- an entry has one extension, whose value is one that it has
@@ -41,12 +41,21 @@ sound-if-any (Some xs) sound = sound
 -- a list of version 2 and of one algorithm, whose entries have one extension each and whose own are distinct and sound, breaks
 -- no rule that has a place
 pub none-placed : (l : LocatedList) → l.tbsCertList.version ≡ V2 → l.tbsCertList.signature.whole ≡ l.signatureAlgorithm.whole → AllByRecursion HasOneValid (entries_of (unlocated_list l))
-    → first_repeated (λ x. x.extnID) [] (unwrap_or (unlocated_list l).tbsCertList.crlExtensions []) ≡ None → AreValid ListHolder (map as_ruled (unwrap_or (unlocated_list l).tbsCertList.crlExtensions [])) → placed_fault l ≡ None
+    → first_repeated (λ x. x.extnID) [] (unwrap_or (unlocated_list l).tbsCertList.crlExtensions [])
+    ≡ None → AreValid ListHolder
+    (map as_ruled (unwrap_or (unlocated_list l).tbsCertList.crlExtensions []))
+    → placed_fault l ≡ None
 none-placed l two one entries distinct sound =
     let own = (unlocated_list l).tbsCertList.crlExtensions in
-    let algorithms : algorithms_fault l ≡ None = rw ((bytes_eq-Decides l.tbsCertList.signature.whole l.signatureAlgorithm.whole).1 one) refl in
-    let version : version_fault l.tbsCertList.version l ≡ None = rw two refl in
-    let front = both (algorithms_fault l) (version_fault l.tbsCertList.version l) algorithms version in
-    let repeats = both (algorithms_fault l or_else version_fault l.tbsCertList.version l) (fault_by_place Repeated l) front (all-keep Repeated l (one-distinct (entries_of (unlocated_list l)) entries, distinct-if-any own distinct)) in
-    both (algorithms_fault l or_else version_fault l.tbsCertList.version l or_else fault_by_place Repeated l) (fault_by_place Values l) repeats
+    let algorithms : crl_algorithms_fault l ≡ None = rw ((bytes_eq-Decides l.tbsCertList.signature.whole l.signatureAlgorithm.whole).1 one) refl in
+    let version : crl_version_fault l.tbsCertList.version l ≡ None = rw two refl in
+    let front = both (crl_algorithms_fault l) (crl_version_fault l.tbsCertList.version l) algorithms version in
+    let repeats = both (crl_algorithms_fault l or_else crl_version_fault l.tbsCertList.version l)
+    (fault_by_place Repeated l) front
+    (all-keep Repeated l (
+      one-distinct (entries_of (unlocated_list l)) entries,
+      distinct-if-any
+          own distinct,
+    )) in
+    both (crl_algorithms_fault l or_else crl_version_fault l.tbsCertList.version l or_else fault_by_place Repeated l) (fault_by_place Values l) repeats
     (all-keep Values l (one-sound (entries_of (unlocated_list l)) entries, sound-if-any own sound))

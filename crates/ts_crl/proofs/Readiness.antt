@@ -18,7 +18,7 @@ use Rattle.ts_ext.proofs.ValidExtensions.{AllOctets, some-octets}
 use Rattle.ts_field.specs.Time.{time_at}
 use Rattle.ts_field.proofs.Times.{time-part}
 use Rattle.ts_crl.specs.List.{LocatedExtensions, LocatedEntry, LocatedTbsList}
-use Rattle.ts_crl.specs.Reading.{extensions_of, wrapped_extensions_of, entry_of, entry_in, revoked_of}
+use Rattle.ts_crl.specs.Reading.{located_extensions_of, wrapped_extensions_of, entry_of, located_entry_of, revoked_of}
 
 -- extensions whose values are octets
 abbrev pub Ready : LocatedExtensions → Type 0
@@ -86,8 +86,8 @@ optional-gets {A} tag value P all here x after fits read = by_start (begins_with
 
 -- ---- extensions
 
-extensions-ready : Gets extensions_of Ready
-unfolding extensions_of
+extensions-ready : Gets located_extensions_of Ready
+unfolding located_extensions_of
 extensions-ready e x fits read =
     let s = bind_ok (some_of located_in e) _ x read in
     subst Ready (ok_is {A = LocatedExtensions} {E = Fault} (record { at = e.at; extensions = s.0 }) x s.2) (some-ready e s.0 fits s.1)
@@ -105,24 +105,24 @@ unfolding entry_of
 entry-ready e x fits read =
     let s = bind_ok (integer_at (inside e)) _ x read in
     let d = bind_ok (time_at s.0.1) _ x s.2 in
-    let o = bind_ok (optional_of 0x30 extensions_of d.0.1) _ x d.2 in
+    let o = bind_ok (optional_of 0x30 located_extensions_of d.0.1) _ x d.2 in
     let z = bind_ok (end_at o.0.1) _ x o.2 in
     let made : LocatedEntry = record { userCertificate = s.0.0; revocationDate = d.0.0; crlEntryExtensions = o.0.0 } in
     let serial = took integer-part (inside e) s.0.0 s.0.1 fits s.1 in
     let date = took time-part s.0.1 d.0.0 d.0.1 serial.3 d.1 in
     subst (λ (y : LocatedEntry). IfReady Ready y.crlEntryExtensions) (ok_is {A = LocatedEntry} {E = Fault} made x z.2)
-    (optional-gets 0x30 extensions_of Ready extensions-ready d.0.1 o.0.0 o.0.1 date.3 o.1)
+    (optional-gets 0x30 located_extensions_of Ready extensions-ready d.0.1 o.0.0 o.0.1 date.3 o.1)
 
-entries-ready : (n : ℕ) (here : Place) (xs : List LocatedEntry) → AreOctets here.rest → many_from n (each entry_in) here ≡ Ok xs → EntriesReady xs
+entries-ready : (n : ℕ) (here : Place) (xs : List LocatedEntry) → AreOctets here.rest → many_from n (each located_entry_of) here ≡ Ok xs → EntriesReady xs
 entries-ready zero here xs fits read = subst EntriesReady (ok_is {A = List LocatedEntry} {E = Fault} [] xs read) tt
 entries-ready (suc n) here xs fits read = by_end (λ after ys fits more. entries-ready n after ys fits more) (is_end here.rest) read
   where
-    by_end : ((after : Place) (ys : List LocatedEntry) → AreOctets after.rest → many_from n (each entry_in) after ≡ Ok ys → EntriesReady ys)
-        → (b : Bool) → cond b (Ok []) (each entry_in here >>= λ x. many_from n (each entry_in) x.1 >>= λ ys. Ok (x.0 ∷ ys)) ≡ Ok xs → EntriesReady xs
+    by_end : ((after : Place) (ys : List LocatedEntry) → AreOctets after.rest → many_from n (each located_entry_of) after ≡ Ok ys → EntriesReady ys)
+        → (b : Bool) → cond b (Ok []) (each located_entry_of here >>= λ x. many_from n (each located_entry_of) x.1 >>= λ ys. Ok (x.0 ∷ ys)) ≡ Ok xs → EntriesReady xs
     by_end more true e = subst EntriesReady (ok_is {A = List LocatedEntry} {E = Fault} [] xs e) tt
     by_end more false e =
-        let a = bind_ok (each entry_in here) (λ x. many_from n (each entry_in) x.1 >>= λ ys. Ok (x.0 ∷ ys)) xs e in
-        let b = bind_ok (many_from n (each entry_in) a.0.1) (λ ys. Ok (a.0.0 ∷ ys)) xs a.2 in
+        let a = bind_ok (each located_entry_of here) (λ x. many_from n (each located_entry_of) x.1 >>= λ ys. Ok (x.0 ∷ ys)) xs e in
+        let b = bind_ok (many_from n (each located_entry_of) a.0.1) (λ ys. Ok (a.0.0 ∷ ys)) xs a.2 in
         let first = each-gets 0x30 entry_of (λ x. IfReady Ready x.crlEntryExtensions) entry-ready here a.0.0 a.0.1 fits a.1 in
         subst EntriesReady (ok_is {A = List LocatedEntry} {E = Fault} (a.0.0 ∷ b.0) xs b.2) (first.0, more a.0.1 b.0 first.1 b.1)
 

@@ -28,7 +28,10 @@ use Rattle.ts_crl.specs.List.{RevokedCertificate, CertificateList}
 use Rattle.ts_crl.specs.Profile.{as_scope, scope_of}
 use Rattle.ts_crl.specs.Rules.{as_ruled, KeepsIfAny, EntriesKeep}
 use Rattle.ts_ext.specs.Stated.{IsValueOf, IsStated}
-use Rattle.ts_crl.specs.Values.{is_known, extensions_of, entry_extensions_of, ok_of, value_in_octets, value_if_any, value_among, as_number, number_of, with_number, base_of, as_key, key_of, as_reason, reason_of, as_date, date_of}
+use Rattle.ts_crl.specs.Values.{is_known, list_extensions, entry_extensions_of, ok_of}
+use Rattle.ts_crl.specs.Values.{value_in_octets, value_if_any, value_among, as_number, crl_number}
+use Rattle.ts_crl.specs.Values.{with_number, base_number, as_key, key_of, as_reason, reason_of}
+use Rattle.ts_crl.specs.Values.{as_date, date_of}
 
 -- ---- the form of one extension
 
@@ -116,7 +119,7 @@ stated-among {A} {known} {Is} {back} f holder ruled own here xs are = by_option 
 -- ---- lists
 
 -- the extensions of a list, each under the object identifier whose rules its value keeps
-list-valid : (octets : List ℕ) (c : CertificateList) → IsCertificateList octets c → AreValid ListHolder (map as_ruled (extensions_of c))
+list-valid : (octets : List ℕ) (c : CertificateList) → IsCertificateList octets c → AreValid ListHolder (map as_ruled (list_extensions c))
 list-valid octets c is = by_option c.tbsCertList.crlExtensions is.sound.1
   where
     by_option : (o : Option (List Extension)) → KeepsIfAny Values ListHolder o → AreValid ListHolder (map as_ruled (unwrap_or o []))
@@ -149,23 +152,27 @@ at-date : known_at Entry (identifier_of InvalidityDate) ≡ Some InvalidityDate
 unfolding known_at entry_extension
 at-date = refl
 
-pub scope-stated : (octets : List ℕ) (c : CertificateList) → IsCertificateList octets c → IsStated (Within 0x30 IsIssuingPoint) (find (is_known IssuingDistributionPoint) (extensions_of c)) (scope_of c)
-scope-stated octets c is = stated-among scope-form ListHolder as_ruled (own-rules IssuingDistributionPoint refl) at-scope (extensions_of c) (list-valid octets c is)
+pub scope-stated : (octets : List ℕ) (c : CertificateList) → IsCertificateList octets c
+    → IsStated (Within 0x30 IsIssuingPoint)
+    (find (is_known IssuingDistributionPoint) (list_extensions c)) (scope_of c)
+scope-stated octets c is = stated-among scope-form ListHolder as_ruled (own-rules IssuingDistributionPoint refl) at-scope (list_extensions c) (list-valid octets c is)
 
-pub number-stated : (octets : List ℕ) (c : CertificateList) → IsCertificateList octets c → IsStated (Within 0x02 IsCrlNumber) (find (is_known CrlNumber) (extensions_of c)) (number_of c)
-number-stated octets c is = stated-among number-form ListHolder as_ruled (own-rules CrlNumber refl) at-number (extensions_of c) (list-valid octets c is)
+pub number-stated : (octets : List ℕ) (c : CertificateList) → IsCertificateList octets c → IsStated (Within 0x02 IsCrlNumber) (find (is_known CrlNumber) (list_extensions c)) (crl_number c)
+number-stated octets c is = stated-among number-form ListHolder as_ruled (own-rules CrlNumber refl) at-number (list_extensions c) (list-valid octets c is)
 
-pub key-stated : (octets : List ℕ) (c : CertificateList) → IsCertificateList octets c → IsStated (Within 0x30 IsAuthorityKey) (find (is_known AuthorityKeyIdentifier) (extensions_of c)) (key_of c)
-key-stated octets c is = stated-among key-form ListHolder as_ruled (own-rules AuthorityKeyIdentifier refl) at-key (extensions_of c) (list-valid octets c is)
+pub key-stated : (octets : List ℕ) (c : CertificateList) → IsCertificateList octets c → IsStated (Within 0x30 IsAuthorityKey) (find (is_known AuthorityKeyIdentifier) (list_extensions c)) (key_of c)
+key-stated octets c is = stated-among key-form ListHolder as_ruled (own-rules AuthorityKeyIdentifier refl) at-key (list_extensions c) (list-valid octets c is)
 
 -- the value of deltaCRLIndicator keeps the rules of cRLNumber
-pub base-stated : (octets : List ℕ) (c : CertificateList) → IsCertificateList octets c → IsStated (Within 0x02 IsCrlNumber) (find (is_known DeltaCrlIndicator) (extensions_of c)) (base_of c)
-base-stated octets c is = by_option (find (is_known DeltaCrlIndicator) (extensions_of c)) refl
+pub base-stated : (octets : List ℕ) (c : CertificateList) → IsCertificateList octets c → IsStated (Within 0x02 IsCrlNumber) (find (is_known DeltaCrlIndicator) (list_extensions c)) (base_number c)
+base-stated octets c is = by_option (find (is_known DeltaCrlIndicator) (list_extensions c)) refl
   where
-    by_option : (o : Option Extension) → find (is_known DeltaCrlIndicator) (extensions_of c) ≡ o → IsStated (Within 0x02 IsCrlNumber) o (as_number (value_if_any ListHolder (option_map with_number o)))
+    by_option : (o : Option Extension) → find (is_known DeltaCrlIndicator) (list_extensions c) ≡ o
+        → IsStated (Within 0x02 IsCrlNumber) o
+        (as_number (value_if_any ListHolder (option_map with_number o)))
     by_option None e = refl
     by_option (Some x) e =
-        let v = find-valid ListHolder as_ruled (is_known DeltaCrlIndicator) (extensions_of c) x (list-valid octets c is) e in
+        let v = find-valid ListHolder as_ruled (is_known DeltaCrlIndicator) (list_extensions c) x (list-valid octets c is) e in
         let valid : IsValid ListHolder (with_number x) = subst (λ (y : Extension). IsValid ListHolder y) (ap (λ (b : Bool). cond b (with_number x) x) v.1) v.0 in
         octets-stated number-form (known_at ListHolder (identifier_of CrlNumber)) at-number x.extnValue valid
 
@@ -187,12 +194,16 @@ each-entry : (P : RevokedCertificate → Type 0) → ((e : RevokedCertificate) �
 each-entry P one [] k = All-nil P
 each-entry P one (e ∷ es) k = All-cons P e es (one e k.0) (each-entry P one es k.1)
 
-pub reason-stated : (octets : List ℕ) (c : CertificateList) → IsCertificateList octets c → All (λ e. IsStated (Within 0x0A IsReasonCode) (find (is_known ReasonExtension) (entry_extensions_of e)) (reason_of e)) (entries_of c)
+pub reason-stated : (octets : List ℕ) (c : CertificateList) → IsCertificateList octets c
+    → All (λ e. IsStated (Within 0x0A IsReasonCode)
+    (find (is_known ReasonExtension) (entry_extensions_of e)) (reason_of e)) (entries_of c)
 reason-stated octets c is =
     each-entry (λ e. IsStated (Within 0x0A IsReasonCode) (find (is_known ReasonExtension) (entry_extensions_of e)) (reason_of e))
     (λ e keeps. stated-among reason-form Entry (λ x. x) (λ x id. refl) at-reason (entry_extensions_of e) (entry-valid e keeps)) (entries_of c) is.sound.0
 
-pub date-stated : (octets : List ℕ) (c : CertificateList) → IsCertificateList octets c → All (λ e. IsStated (Within 0x18 IsInvalidityDate) (find (is_known InvalidityDate) (entry_extensions_of e)) (date_of e)) (entries_of c)
+pub date-stated : (octets : List ℕ) (c : CertificateList) → IsCertificateList octets c
+    → All (λ e. IsStated (Within 0x18 IsInvalidityDate)
+    (find (is_known InvalidityDate) (entry_extensions_of e)) (date_of e)) (entries_of c)
 date-stated octets c is =
     each-entry (λ e. IsStated (Within 0x18 IsInvalidityDate) (find (is_known InvalidityDate) (entry_extensions_of e)) (date_of e))
     (λ e keeps. stated-among date-form Entry (λ x. x) (λ x id. refl) at-date (entry_extensions_of e) (entry-valid e keeps)) (entries_of c) is.sound.0

@@ -49,7 +49,10 @@ element-next tag here e = by_header (first_broken header_rules here.rest)
     same [] e = absurd cc
     same (o ∷ rest) e = e
 
-    by_header : (o : Option DerFault) → (unless {A = Tlv × Place} o here.at (element_of here, behind here) >>= λ x. cond {A = Result (Tlv × Place) Fault} (eqb x.0.tag tag) (Ok x) (Err (fault_at x.0.at WrongTag))) ≡ unless o here.at (element_of here, behind here)
+    by_header : (o : Option DerFault)
+        → (unless {A = Tlv × Place} o here.at (element_of here, behind here) >>= λ x. cond
+        {A = Result (Tlv × Place) Fault} (eqb x.0.tag tag) (Ok x) (Err (fault_at x.0.at WrongTag)))
+        ≡ unless o here.at (element_of here, behind here)
     by_header None = rw (same here.rest e) refl
     by_header (Some kind) = refl
 
@@ -82,7 +85,9 @@ update-is here = ap (λ (r : Result (Option Time × Place) Fault). r >>= λ t. o
     by_start true = by_time (time_at here)
     by_start false = form-is 0x18 here
 
-pub update-found : (here : Place) (x : Option Time) (after : Place) → AreOctets here.rest → next_update_at here ≡ Ok (x, after) → (w : List ℕ) × IsTimeIfAny w x × (here.rest ≡ w ++ after.rest) × AreOctets after.rest
+pub update-found : (here : Place) (x : Option Time) (after : Place) → AreOctets here.rest
+    → next_update_at here ≡ Ok (x, after) → (w : List ℕ) × IsTimeIfAny w x
+    × (here.rest ≡ w ++ after.rest) × AreOctets after.rest
 update-found here x after fits read = by_start (begins_with 0x17 here.rest) (begins_with 0x18 here.rest) (sym (update-is here) ∙ read)
   where
     Is : Option Time × Place → Type 0
@@ -117,7 +122,9 @@ update-again here (Some t) w rest is utc general e =
     let some : some_time here ≡ Ok (Some t, record { rest = rest; at = here.at + length w }) = rw read refl in
     update-is here ∙ (by_form t.form is (begins_with 0x17 here.rest) (begins_with 0x18 here.rest) refl refl ∙ some)
   where
-    by_form : (f : TimeForm) → IsTimeIn f w t.moment → (a b : Bool) → begins_with 0x17 here.rest ≡ a → begins_with 0x18 here.rest ≡ b → cond a (some_time here) (cond b (some_time here) (no_time here)) ≡ some_time here
+    by_form : (f : TimeForm) → IsTimeIn f w t.moment → (a b : Bool) → begins_with 0x17 here.rest ≡ a
+        → begins_with 0x18 here.rest ≡ b
+        → cond a (some_time here) (cond b (some_time here) (no_time here)) ≡ some_time here
     by_form f is true b p q = refl
     by_form f is false true p q = refl
     by_form Utc is false false p q = absurd (let yes : begins_with 0x17 here.rest ≡ true = ap (begins_with 0x17) e ∙ begins-within is rest in let no = sym yes ∙ p in cc)
@@ -136,7 +143,9 @@ pub update-judged : {B : Type 0} (others : Shape) (here : Place) (f : Option Tim
     → ((x : Option Time) (after : Place) → Judged (f (x, after)) (judge others after) Q)
     → Judged (der (next_update_at here) >>= f) (judge (optional time then others) here) Q
 update-judged {B} others here f Q k =
-    subst (λ (r : Result (Option Time × Place) Fault). Judged (der r >>= f) (judge (optional time then others) here) Q) (sym (update-is here)) (by_start (begins_with 0x17 here.rest) (begins_with 0x18 here.rest))
+    subst (λ (r : Result (Option Time × Place) Fault). Judged (der r >>= f)
+    (judge (optional time then others) here) Q) (sym (update-is here))
+    (by_start (begins_with 0x17 here.rest) (begins_with 0x18 here.rest))
   where
     flat : (r : Result (Time × Place) Fault) → (der (r >>= λ t. beside_some t.1 t.0) >>= f) ≡ (der r >>= λ t. f (Some t.0, t.1))
     flat (Ok t) = refl

@@ -17,9 +17,9 @@ use Rattle.ts_crl.specs.Profile.{profile_fault}
 use Rattle.ts_crl.specs.Rules.{FitVersion, AllKeep}
 
 -- version Version OPTIONAL, which is v2(1) where it is present (5.1.2.1)
-abbrev pub version_octets : ListVersion → List ℕ
-version_octets V1 = []
-version_octets V2 = encode 0x02 (1 ∷ [])
+abbrev pub crl_version_octets : ListVersion → List ℕ
+crl_version_octets V1 = []
+crl_version_octets V2 = encode 0x02 (1 ∷ [])
 
 -- Time OPTIONAL
 abbrev pub IsTimeIfAny : List ℕ → Option Time → Type 0
@@ -56,12 +56,12 @@ pub record IsTbsCertList (content : List ℕ) (t : TbsCertList) : Type 0 where
   pub nextUpdate : IsTimeIfAny next t.nextUpdate
   pub revokedCertificates : IfAny 0x30 AreRevoked revoked t.revokedCertificates
   pub crlExtensions : IfAny 0xA0 (Within 0x30 AreExtensions) extensions t.crlExtensions
-  pub fields : content ≡ version_octets t.version
+  pub fields : content ≡ crl_version_octets t.version
       ++ (algorithm ++ (issued_by ++ (this ++ (next ++ (revoked ++ extensions)))))
 
 -- the fields of CertificateList ::= SEQUENCE { tbsCertList, signatureAlgorithm, signatureValue BIT
 -- STRING } (5.1.1)
-pub record IsSigned (content : List ℕ) (c : CertificateList) : Type 0 where
+pub record IsSignedCrl (content : List ℕ) (c : CertificateList) : Type 0 where
   pub identifier : List ℕ
   pub bits : List ℕ
   pub tbsCertList : Within 0x30 IsTbsCertList c.tbs c.tbsCertList
@@ -74,7 +74,7 @@ pub record IsSigned (content : List ℕ) (c : CertificateList) : Type 0 where
 -- their extensions (5.2, 5.3); and the list keeps the rules of this profile
 pub record IsCertificateList (octets : List ℕ) (c : CertificateList) : Type 0 where
   pub size : length octets ≤ 4194304
-  pub whole : Within 0x30 IsSigned octets c
+  pub whole : Within 0x30 IsSignedCrl octets c
   pub agree : c.tbsCertList.signature ≡ c.signatureAlgorithm
   pub version : FitVersion c.tbsCertList.version c
   pub distinct : AllKeep Repeated c

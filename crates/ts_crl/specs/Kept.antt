@@ -1,23 +1,10 @@
 -- A list that was read and is kept: what has to be known of its entries so that it is lent again
 -- without reading them.
-use Rattle.std.specs.Prelude.{◌≡◌, ◌++◌, ℕ, codes, false, List, Option, Some, None, Result, Ok, Err}
-use Rattle.ts_der.specs.Element.{Place, Tlv}
-use Rattle.ts_der.specs.Octets.{AreOctets}
-use Rattle.ts_shape.specs.declared.fault.CertFault.{CertFault}
-use Rattle.ts_shape.specs.Fields.{optional_of}
-use Rattle.ts_crl.specs.declared.extension_rule.ExtensionRule.TheVariants.{OldVersion}
-use Rattle.ts_digest.specs.Message.{IsDigestOf}
-use Rattle.ts_crl.specs.declared.fault.CrlFault.{CrlFault}
-use Rattle.ts_crl.specs.declared.owned.Checked.{Checked}
+use Rattle.std.specs.Prelude.{◌≡◌, ◌++◌, ℕ, codes, List, Option, Some, None, Err}
 use Rattle.ts_crl.specs.declared.owned.OwnedCrlFault.{OwnedCrlFault}
 use Rattle.ts_crl.specs.declared.owned.OwnedCrlFault.TheVariants.{Memory, Unreadable}
 use Rattle.ts_crl.specs.Fault.{ListFault, fault_in, fault_text}
-use Rattle.ts_crl.specs.Findings.{Findings, findings_of}
-use Rattle.ts_crl.specs.List.{LocatedEntry, LocatedTbsList, LocatedList}
-use Rattle.ts_crl.specs.OwnedView.{list_of}
-use Rattle.ts_crl.specs.Reading.{revoked_of, tbs_of, signed_of, shape_of}
-use Rattle.ts_crl.specs.Table.{list_fault, crl_of}
-use Rattle.ts_crl.specs.Rules.{entries_fault}
+use Rattle.ts_crl.specs.Table.{crl_of}
 
 -- why octets are no list, where a call refused them for that
 abbrev pub unreadable_in : OwnedCrlFault → Option ListFault
@@ -29,54 +16,7 @@ abbrev pub RefusedFor : List ℕ → OwnedCrlFault → Type 0
 RefusedFor octets Memory = Unit {0}
 RefusedFor octets (Unreadable fault) = crl_of octets ≡ Err (fault_in fault)
 
--- where the first extensions of entries are
-abbrev pub first_place : Option (List LocatedEntry) → Option CertFault
-first_place None = None
-first_place (Some es) = entries_fault OldVersion es
-
 -- what is printed of it
 abbrev pub kept_text : OwnedCrlFault → List ℕ
 kept_text Memory = codes "Memory"
 kept_text (Unreadable fault) = codes "Unreadable(" ++ (fault_text (fault_in fault) ++ codes ")")
-
--- what is found in entries of a list that breaks no rule: no more than where the first of their
--- extensions are
-abbrev pub only_place : Option CertFault → Findings
-only_place first = record {
-  old_version = first;
-  repeated = None;
-  value = None;
-  unprocessed = None;
-  issuer = false;
-}
-
-abbrev pub HavePlace : Option CertFault → Option (List LocatedEntry) → Type 0
-HavePlace first None = Unit {0}
-HavePlace first (Some es) = findings_of es ≡ only_place first
-
--- the entries that may be next, the fields that are signed, and a list were read, and that is what
--- was found
-abbrev pub EntriesRead : Option CertFault → Place → Type 0
-EntriesRead first here = (x : Option (List LocatedEntry) × Place)
-    × (optional_of 0x30 revoked_of here ≡ Ok x) × HavePlace first x.0
-
-abbrev pub TbsRead : Option CertFault → Tlv → Type 0
-TbsRead first e = (t : LocatedTbsList) × (tbs_of e ≡ Ok t) × HavePlace first t.revokedCertificates
-
-abbrev pub SignedRead : Option CertFault → Tlv → Type 0
-SignedRead first e = (l : LocatedList) × (signed_of e ≡ Ok l)
-    × HavePlace first l.tbsCertList.revokedCertificates
-
--- octets are a list that breaks no rule, and that was found in its entries
-pub record WasRead (first : Option CertFault) (octets : List ℕ) : Type 0 where
-  pub are_octets : AreOctets octets
-  pub list : LocatedList
-  pub shape : shape_of octets ≡ Ok list
-  pub unbroken : list_fault list ≡ None
-  pub entries : HavePlace first list.tbsCertList.revokedCertificates
-
--- a call answered what has to be known of octets that are a list, or the first rule that they break
-abbrev pub Checks : List ℕ → Result Checked CrlFault → Type 0
-Checks octets (Ok checked) = WasRead checked.first octets
-    × IsDigestOf checked.digest (list_of octets).tbs
-Checks octets (Err fault) = crl_of octets ≡ Err (fault_in fault)

@@ -10,10 +10,9 @@ pub mod Encoding
 pub mod Table
 pub mod Findings
 pub mod FindingsView
-pub mod Marks
-pub mod MarkView
 pub mod EntryView
 pub mod ListView
 pub mod Kept
 pub mod Slots
 pub mod OwnedView
+pub mod inside

@@ -17,7 +17,7 @@ use Rattle.ts_crl.specs.Entries.{entries_of}
 use Rattle.ts_crl.specs.Fault.{ListFault, noNextUpdate, criticalCrlExtension, deltaCrl, indirect}
 use Rattle.ts_crl.specs.Fault.{relativeName}
 use Rattle.ts_crl.specs.List.{RevokedCertificate, CertificateList}
-use Rattle.ts_crl.specs.Values.{is_known, extensions_of, entry_extensions_of, value_among}
+use Rattle.ts_crl.specs.Values.{is_known, list_extensions, entry_extensions_of, value_among}
 
 -- ---- critical extensions
 
@@ -35,8 +35,8 @@ unprocessed_of_entries (e ∷ es) =
     unprocessed_in Entry (entry_extensions_of e) or_else unprocessed_of_entries es
 
 -- of the list first, then of its entries (5.2, 5.3)
-abbrev pub unprocessed : CertificateList → Option (List ℕ)
-unprocessed c = unprocessed_in ListHolder (extensions_of c) or_else unprocessed_of_entries
+abbrev pub first_unprocessed : CertificateList → Option (List ℕ)
+first_unprocessed c = unprocessed_in ListHolder (list_extensions c) or_else unprocessed_of_entries
     (entries_of c)
 
 -- ---- the scope
@@ -47,7 +47,7 @@ as_scope (Some (issuingDistributionPoint p)) = Some p
 as_scope other = None
 
 abbrev pub scope_of : CertificateList → Option ListScope
-scope_of c = as_scope (value_among ListHolder IssuingDistributionPoint (extensions_of c))
+scope_of c = as_scope (value_among ListHolder IssuingDistributionPoint (list_extensions c))
 
 abbrev pub is_relative_name : Option PointName → Bool
 is_relative_name (Some (nameRelativeToCRLIssuer rdn)) = true
@@ -74,16 +74,16 @@ is_relative c = scope_meets (λ p. is_relative_name p.distributionPoint) (scope_
 
 -- the list is a delta: it states what has changed since the list of its base number (5.2.4)
 abbrev pub is_delta : CertificateList → Bool
-is_delta c = list_any (is_known DeltaCrlIndicator) (extensions_of c)
+is_delta c = list_any (is_known DeltaCrlIndicator) (list_extensions c)
 
 -- the list has a number (5.2.3)
 abbrev pub has_number : CertificateList → Bool
-has_number c = list_any (is_known CrlNumber) (extensions_of c)
+has_number c = list_any (is_known CrlNumber) (list_extensions c)
 
 abbrev pub profile_fault : CertificateList → Option ListFault
 profile_fault c =
     (if is_none c.tbsCertList.nextUpdate then Some noNextUpdate else None)
-    or_else option_map (λ oid. criticalCrlExtension oid) (unprocessed c)
+    or_else option_map (λ oid. criticalCrlExtension oid) (first_unprocessed c)
     or_else (if is_indirect c then Some indirect else None)
     or_else (if is_relative c then Some relativeName else None)
     or_else (if is_delta c && not (has_number c) then Some deltaCrl else None)

@@ -18,11 +18,11 @@ use Rattle.ts_field.specs.declared.time.Time.{Time}
 use Rattle.ts_field.specs.Algorithm.{algorithm_of, algorithm_at}
 use Rattle.ts_field.specs.Time.{time_of, time_at}
 use Rattle.ts_crl.specs.List.{LocatedExtensions, LocatedEntry, LocatedTbsList, LocatedList}
-use Rattle.ts_crl.specs.Version.{version_at}
+use Rattle.ts_crl.specs.Version.{crl_version_at}
 
 -- Extensions ::= SEQUENCE SIZE (1..MAX) OF Extension
-unfoldable pub extensions_of : Tlv → Result LocatedExtensions Fault
-extensions_of e = some_of located_in e >>= λ xs. Ok (record { at = e.at; extensions = xs })
+unfoldable pub located_extensions_of : Tlv → Result LocatedExtensions Fault
+located_extensions_of e = some_of located_in e >>= λ xs. Ok (record { at = e.at; extensions = xs })
 
 -- [0] EXPLICIT Extensions
 unfoldable pub wrapped_extensions_of : Tlv → Result LocatedExtensions Fault
@@ -35,7 +35,7 @@ unfoldable pub entry_of : Tlv → Result LocatedEntry Fault
 entry_of e = do
   serial ← integer_at (inside e)
   date ← time_at serial.1
-  extensions ← optional_of 0x30 extensions_of date.1
+  extensions ← optional_of 0x30 located_extensions_of date.1
   done ← end_at extensions.1
   Ok (record {
     userCertificate = serial.0;
@@ -43,12 +43,12 @@ entry_of e = do
     crlEntryExtensions = extensions.0;
   })
 
-abbrev pub entry_in : Tlv → Result LocatedEntry Fault
-entry_in = of_tag 0x30 entry_of
+abbrev pub located_entry_of : Tlv → Result LocatedEntry Fault
+located_entry_of = of_tag 0x30 entry_of
 
 -- revokedCertificates ::= SEQUENCE OF, of which there may be none
 abbrev pub revoked_of : Tlv → Result (List LocatedEntry) Fault
-revoked_of e = many (each entry_in) (inside e)
+revoked_of e = many (each located_entry_of) (inside e)
 
 -- a GeneralizedTime, where no UTCTime stood
 abbrev pub or_general : Option Time × Place → Result (Option Time × Place) Fault
@@ -61,9 +61,9 @@ next_update_at here = optional_of 0x17 time_of here >>= λ utc. or_general utc
 
 -- TBSCertList ::= SEQUENCE { version, signature, issuer, thisUpdate, nextUpdate,
 -- revokedCertificates, crlExtensions }
-unfoldable pub tbs_of : Tlv → Result LocatedTbsList CertFault
-tbs_of e = do
-  version ← version_at (inside e)
+unfoldable pub crl_tbs_of : Tlv → Result LocatedTbsList CertFault
+crl_tbs_of e = do
+  version ← crl_version_at (inside e)
   signature ← der (algorithm_at version.1)
   issuer ← der (name_at signature.1)
   this ← der (time_at issuer.1)
@@ -82,10 +82,10 @@ tbs_of e = do
   })
 
 -- CertificateList ::= SEQUENCE { tbsCertList, signatureAlgorithm, signatureValue BIT STRING }
-unfoldable pub signed_of : Tlv → Result LocatedList CertFault
-signed_of e = do
+unfoldable pub crl_signed_of : Tlv → Result LocatedList CertFault
+crl_signed_of e = do
   tbs ← der (element_at 0x30 (inside e))
-  fields ← tbs_of tbs.0
+  fields ← crl_tbs_of tbs.0
   identifier ← der (element_at 0x30 tbs.1)
   algorithm ← der (algorithm_of identifier.0)
   signature ← der (bits_at identifier.1)
@@ -99,14 +99,14 @@ signed_of e = do
   })
 
 -- the list that octets are, and nothing after it
-unfoldable pub whole_of : List ℕ → Result LocatedList CertFault
-whole_of octets = do
+unfoldable pub crl_whole_of : List ℕ → Result LocatedList CertFault
+crl_whole_of octets = do
   e ← der (element_at 0x30 (record { rest = octets; at = 0 }))
-  signed ← signed_of e.0
+  signed ← crl_signed_of e.0
   done ← der (end_at e.1)
   Ok signed
 
 -- octets that are at most 4,194,304, the limit of this profile
 unfoldable pub shape_of : List ℕ → Result LocatedList CertFault
 shape_of octets = if nat_lt 4194304 (length octets) then Err (breaks 0 (Der TooLarge))
-    else whole_of octets
+    else crl_whole_of octets

@@ -69,18 +69,19 @@ fault_by_place rule l = entries_fault rule
     (unwrap_or l.tbsCertList.revokedCertificates []) or_else fault_if_any rule ListHolder
     l.tbsCertList.crlExtensions
 
-abbrev pub version_fault : ListVersion → LocatedList → Option CertFault
-version_fault V1 l = fault_by_place OldVersion l
-version_fault V2 l = None
+abbrev pub crl_version_fault : ListVersion → LocatedList → Option CertFault
+crl_version_fault V1 l = fault_by_place OldVersion l
+crl_version_fault V2 l = None
 
 -- signatureAlgorithm is the same as signature (5.1.1.2)
-abbrev pub algorithms_fault : LocatedList → Option CertFault
-algorithms_fault l = if bytes_eq l.tbsCertList.signature.whole l.signatureAlgorithm.whole then None
+abbrev pub crl_algorithms_fault : LocatedList → Option CertFault
+crl_algorithms_fault l = if bytes_eq l.tbsCertList.signature.whole l.signatureAlgorithm.whole then
+    None
     else Some (breaks l.identifier_at AlgorithmMismatch)
 
 -- the first of these rules that a list breaks
 abbrev pub placed_fault : LocatedList → Option CertFault
-placed_fault l = algorithms_fault l or_else version_fault l.tbsCertList.version l or_else
+placed_fault l = crl_algorithms_fault l or_else crl_version_fault l.tbsCertList.version l or_else
     fault_by_place Repeated l or_else fault_by_place Values l
 
 -- ---- what keeps the rules

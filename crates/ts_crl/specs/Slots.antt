@@ -8,11 +8,11 @@ use Rattle.ts_ext.specs.declared.known.Known.{Known}
 use Rattle.ts_ext.specs.declared.known.Known.TheVariants.{IssuingDistributionPoint}
 use Rattle.ts_ext.specs.declared.known.Known.TheVariants.{AuthorityKeyIdentifier}
 use Rattle.ts_crl.specs.List.{CertificateList}
-use Rattle.ts_crl.specs.Values.{is_known, extensions_of}
+use Rattle.ts_crl.specs.Values.{is_known, list_extensions}
 
 -- the octets of an extension's value, where the extension is there
-abbrev pub octets_of : Known → CertificateList → Option (List ℕ)
-octets_of known l = option_map (λ x. x.extnValue) (find (is_known known) (extensions_of l))
+abbrev pub value_octets : Known → CertificateList → Option (List ℕ)
+value_octets known l = option_map (λ x. x.extnValue) (find (is_known known) (list_extensions l))
 
 -- both absent, or both there and equal
 abbrev pub is_same_value : Option (List ℕ) → Option (List ℕ) → Bool
@@ -24,8 +24,10 @@ is_same_value a b = false
 -- key identifiers
 abbrev pub have_same_values : CertificateList → CertificateList → Bool
 have_same_values l other =
-    is_same_value (octets_of IssuingDistributionPoint l) (octets_of IssuingDistributionPoint other)
-    && is_same_value (octets_of AuthorityKeyIdentifier l) (octets_of AuthorityKeyIdentifier other)
+    is_same_value (value_octets IssuingDistributionPoint l)
+    (value_octets IssuingDistributionPoint other)
+    && is_same_value (value_octets AuthorityKeyIdentifier l)
+    (value_octets AuthorityKeyIdentifier other)
 
 -- one slot: the issuers are the same, and so are these (6.3.3 (c))
 unfoldable pub is_same_slot : CertificateList → CertificateList → Bool

@@ -39,13 +39,13 @@ abbrev pub version : Row
 version = primitive 0x02 version_rules
 
 -- Extensions ::= SEQUENCE SIZE (1..MAX) OF Extension
-abbrev pub extensions : Row
-extensions = tagged 0x30 extension_items list_rules no_other
+abbrev pub extensions_row : Row
+extensions_row = tagged 0x30 extension_items list_rules no_other
 
 -- a member of revokedCertificates ::= SEQUENCE { userCertificate CertificateSerialNumber,
 -- revocationDate Time, crlEntryExtensions Extensions OPTIONAL } (5.1.2.6)
 abbrev pub entry_fields : Shape
-entry_fields = integer then time then optional extensions then nothing
+entry_fields = integer then time then optional extensions_row then nothing
 
 -- revokedCertificates ::= SEQUENCE OF
 abbrev pub revoked_certificates : Row
@@ -53,7 +53,7 @@ revoked_certificates = sequence (items (sequence entry_fields))
 
 -- [0] EXPLICIT Extensions
 abbrev pub crl_extensions : Row
-crl_extensions = tagged 0xA0 (extensions then nothing) no_rules no_other
+crl_extensions = tagged 0xA0 (extensions_row then nothing) no_rules no_other
 
 -- TBSCertList ::= SEQUENCE (5.1.2)
 abbrev pub tbs_fields : Shape

@@ -25,8 +25,8 @@ abbrev pub is_known : Known → Extension → Bool
 is_known known x = bytes_eq x.extnID (identifier_of known)
 
 -- the extensions of a list, and of an entry, none where they are absent
-abbrev pub extensions_of : CertificateList → List Extension
-extensions_of c = unwrap_or c.tbsCertList.crlExtensions []
+abbrev pub list_extensions : CertificateList → List Extension
+list_extensions c = unwrap_or c.tbsCertList.crlExtensions []
 
 abbrev pub entry_extensions_of : RevokedCertificate → List Extension
 entry_extensions_of e = unwrap_or e.crlEntryExtensions []
@@ -54,8 +54,8 @@ abbrev pub as_number : Option ExtValue → Option (List ℕ)
 as_number (Some (cRLNumber n)) = Some n
 as_number other = None
 
-abbrev pub number_of : CertificateList → Option (List ℕ)
-number_of c = as_number (value_among ListHolder CrlNumber (extensions_of c))
+abbrev pub crl_number : CertificateList → Option (List ℕ)
+crl_number c = as_number (value_among ListHolder CrlNumber (list_extensions c))
 
 -- an extension with its value as that of cRLNumber
 abbrev pub with_number : Extension → Extension
@@ -66,9 +66,9 @@ located_with_number x = record x { extnID = identifier_of CrlNumber }
 
 -- deltaCRLIndicator (5.2.4): BaseCRLNumber ::= CRLNumber, the number of the list that a delta
 -- states the changes of
-abbrev pub base_of : CertificateList → Option (List ℕ)
-base_of c = as_number (value_if_any ListHolder
-    (option_map with_number (find (is_known DeltaCrlIndicator) (extensions_of c))))
+abbrev pub base_number : CertificateList → Option (List ℕ)
+base_number c = as_number (value_if_any ListHolder
+    (option_map with_number (find (is_known DeltaCrlIndicator) (list_extensions c))))
 
 -- authorityKeyIdentifier (5.2.1)
 abbrev pub as_key : Option ExtValue → Option AuthorityKey
@@ -76,7 +76,7 @@ as_key (Some (authorityKeyIdentifier k)) = Some k
 as_key other = None
 
 abbrev pub key_of : CertificateList → Option AuthorityKey
-key_of c = as_key (value_among ListHolder AuthorityKeyIdentifier (extensions_of c))
+key_of c = as_key (value_among ListHolder AuthorityKeyIdentifier (list_extensions c))
 
 -- ---- values of an entry
 

@@ -12,24 +12,24 @@ use Rattle.ts_crl.specs.declared.version.ListVersion.{ListVersion}
 use Rattle.ts_crl.specs.declared.version.ListVersion.TheVariants.{V1, V2}
 
 -- a version that is present is v2(1)
-abbrev pub version_named : ℕ → List ℕ → Result ListVersion CertFault
-version_named at (octet ∷ []) = if octet == 1 then Ok V2 else Err (breaks at Version)
-version_named at content = Err (breaks at Version)
+abbrev pub crl_version_named : ℕ → List ℕ → Result ListVersion CertFault
+crl_version_named at (octet ∷ []) = if octet == 1 then Ok V2 else Err (breaks at Version)
+crl_version_named at content = Err (breaks at Version)
 
 -- an INTEGER that is a version
-unfoldable pub version_of : Tlv → Result ListVersion CertFault
-version_of e = do
+unfoldable pub crl_version_of : Tlv → Result ListVersion CertFault
+crl_version_of e = do
   content ← der (value_at integer_rules (λ c. c) e)
-  version_named e.at content
+  crl_version_named e.at content
 
 -- absent in version 1
-abbrev pub version_if : Option Tlv → Result ListVersion CertFault
-version_if None = Ok V1
-version_if (Some e) = version_of e
+abbrev pub crl_version_if : Option Tlv → Result ListVersion CertFault
+crl_version_if None = Ok V1
+crl_version_if (Some e) = crl_version_of e
 
 -- version Version OPTIONAL
-unfoldable pub version_at : Place → Result (ListVersion × Place) CertFault
-version_at here = do
+unfoldable pub crl_version_at : Place → Result (ListVersion × Place) CertFault
+crl_version_at here = do
   e ← der (optional_at 0x02 here)
-  version ← version_if e.0
+  version ← crl_version_if e.0
   Ok (version, e.1)

@@ -11,16 +11,16 @@ ghost use Rattle.ts_ext.specs.NameViews.{authority_key_in, issuing_point_in};
 ghost use Rattle.ts_crl.specs.Fault.{AnswersBy, fault_in};
 ghost use Rattle.ts_crl.specs.List.{CertificateList};
 ghost use Rattle.ts_crl.specs.Profile.{scope_of};
-ghost use Rattle.ts_crl.specs.Values.{number_of, base_of, key_of};
+ghost use Rattle.ts_crl.specs.Values.{crl_number, base_number, key_of};
 ghost use Rattle.ts_crl.specs.ListView.{located_list_in, crl_in};
 ghost use Rattle.ts_crl.specs.Encoding.{IsCertificateList};
 ghost use Rattle.ts_crl.specs.Table.{list_fault, crl_fault, crl_of};
 
 use crate::entry::Entry;
 use crate::fault::CrlFault;
-use crate::placed::Placed;
+use crate::placed::PlacedFault;
 use crate::profile::{profile_fault, scope};
-use crate::revoked::Revoked;
+use crate::revoked::RevokedEntries;
 use crate::rules::placed_fault;
 use crate::shape::read_shape;
 use crate::values::{base_if_any, value_if_any};
@@ -45,8 +45,8 @@ pub struct Crl<'a> {
     pub(crate) issuer: Name<'a>,
     pub(crate) this_update: Stamp,
     pub(crate) next_update: Option<Stamp>,
-    pub(crate) revoked: Option<Revoked<'a>>,
-    pub(crate) extensions: Option<Placed<'a>>,
+    pub(crate) revoked: Option<RevokedEntries<'a>>,
+    pub(crate) extensions: Option<PlacedFault<'a>>,
     pub(crate) signature_algorithm: AlgorithmIdentifier<'a>,
     pub(crate) signature_value: &'a [u8],
     /// The offset of the algorithm identifier beside the signature.
@@ -130,7 +130,7 @@ impl<'a> Crl<'a> {
 
     /// The certificates that are revoked; `None` where the CRL has no such field, which is not a
     /// field without entries (RFC 5280 5.1.2.6).
-    pub fn revoked(self) -> Option<Revoked<'a>>
+    pub fn revoked(self) -> Option<RevokedEntries<'a>>
         ensures { option_map entries_in result
             ≡ (crl_in self.entry).tbsCertList.revokedCertificates }
     {
@@ -167,7 +167,7 @@ impl<'a> Crl<'a> {
 
     /// The number of the CRL, where it has one (RFC 5280 5.2.3).
     pub fn crl_number(self) -> Option<CrlNumber<'a>>
-        ensures { option_map (λ n. n.octets.now) result ≡ number_of (crl_in self.entry) }
+        ensures { option_map (λ n. n.octets.now) result ≡ crl_number (crl_in self.entry) }
     {
         match value_if_any(Holder::List, Known::CrlNumber, self.extensions) {
             Some(Ext::CrlNumber(number)) => Some(number),
@@ -178,7 +178,7 @@ impl<'a> Crl<'a> {
     /// The number of the CRL that this one states the changes of, where it is a delta (RFC 5280
     /// 5.2.4).
     pub fn base_crl_number(self) -> Option<CrlNumber<'a>>
-        ensures { option_map (λ n. n.octets.now) result ≡ base_of (crl_in self.entry) }
+        ensures { option_map (λ n. n.octets.now) result ≡ base_number (crl_in self.entry) }
     {
         match base_if_any(self.extensions) {
             Some(Ext::CrlNumber(number)) => Some(number),

@@ -11,25 +11,25 @@ ghost use Rattle.ts_shape.specs.Items.{items_at};
 ghost use Rattle.ts_shape.specs.Steps.{Takes};
 ghost use Rattle.ts_crl.specs.Entries.{has_serial};
 ghost use Rattle.ts_crl.specs.EntryView.{entry_in as said_in, entries_in, revoked_in};
-ghost use Rattle.ts_crl.specs.Findings.{Finds};
+ghost use Rattle.ts_crl.specs.inside.Findings.{Finds};
 ghost use Rattle.ts_crl.specs.FindingsView.{findings_in};
-ghost use Rattle.ts_crl.specs.Marks.{mark_of};
-ghost use Rattle.ts_crl.specs.MarkView.{mark_as};
-ghost use Rattle.ts_crl.specs.Reading.{entry_in, revoked_of};
+ghost use Rattle.ts_crl.specs.inside.Marks.{mark_of};
+ghost use Rattle.ts_crl.specs.inside.MarkView.{mark_as};
+ghost use Rattle.ts_crl.specs.Reading.{located_entry_of, revoked_of};
 
 use crate::entry::Entry;
 use crate::findings::Findings;
 use crate::mark::Mark;
 use crate::noting::note_next;
-use crate::revoked::Revoked;
+use crate::revoked::RevokedEntries;
 use ts_der::tag::SEQUENCE;
 use ts_der::{Element, Fault, Integer, Reader};
 use ts_shape::{FromElement, SequenceItems};
 
-impl<'a> Revoked<'a> {
+impl<'a> RevokedEntries<'a> {
     /// The entries, in their order.
     pub fn iter(self) -> SequenceItems<'a, Entry<'a>>
-        ensures { items_at entry_in result.rest ≡ revoked_in self.entry }
+        ensures { items_at located_entry_of result.rest ≡ revoked_in self.entry }
     {
         SequenceItems::within(self.element)
     }
@@ -73,16 +73,18 @@ fn check_entries<'a>(element: Element<'a>) -> Result<Findings<'a>, Fault>
 }
 
 /// The entries that a SEQUENCE's content is.
-fn read_revoked<'a>(element: Element<'a>) -> Result<Revoked<'a>, Fault>
+fn read_revoked<'a>(element: Element<'a>) -> Result<RevokedEntries<'a>, Fault>
     ensures { Answers revoked_in result (revoked_of (now element.entry)) }
 {
     let findings = check_entries(element)?;
-    Ok(Revoked { element, findings })
+    Ok(RevokedEntries { element, findings })
 }
 
 /// The entries, where they are next.
 #[tactic(auto, unfolding(ts_shape::specs::Fields::optional_of, ts_der::specs::Reading::optional_at))]
-pub(crate) fn next_revoked_if_any<'a>(fields: &mut Reader<'a>) -> Result<Option<Revoked<'a>>, Fault>
+pub(crate) fn next_revoked_if_any<'a>(
+    fields: &mut Reader<'a>,
+) -> Result<Option<RevokedEntries<'a>>, Fault>
     ensures { Takes (option_map revoked_in) fields.new result
         (optional_of 0x30 revoked_of fields.old) }
 {

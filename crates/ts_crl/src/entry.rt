@@ -7,7 +7,7 @@ ghost use Rattle.ts_ext.specs.ExtensionView.{extensions_in};
 ghost use Rattle.ts_crl.specs.EntryView.{entry_as, entry_in};
 ghost use Rattle.ts_crl.specs.Reading.{entry_of};
 
-use crate::placed::{Placed, next_extensions_if_any};
+use crate::placed::{PlacedFault, next_extensions_if_any};
 use crate::values::value_if_any;
 use ts_der::tag::SEQUENCE;
 use ts_der::{Element, Fault, Integer};
@@ -20,12 +20,12 @@ use ts_shape::{FromElement, tagged_as};
 pub struct Entry<'a> {
     pub(crate) serial_number: Integer<'a>,
     pub(crate) date: Stamp,
-    pub(crate) extensions: Option<Placed<'a>>,
+    pub(crate) extensions: Option<PlacedFault<'a>>,
 }
 
 impl<'a> FromElement<'a> for Entry<'a> {
     ghost use Rattle.ts_crl.specs.List.{LocatedEntry};
-    ghost use Rattle.ts_crl.specs.Reading.{entry_in as reading_of};
+    ghost use Rattle.ts_crl.specs.Reading.{located_entry_of as reading_of};
 
     ghost Record = { LocatedEntry };
 

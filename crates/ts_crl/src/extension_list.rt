@@ -6,7 +6,7 @@ ghost use Rattle.ts_der.specs.View.{now};
 ghost use Rattle.ts_shape.specs.Items.{some_of};
 ghost use Rattle.ts_ext.specs.Extension.{located_in};
 ghost use Rattle.ts_ext.specs.ExtensionView.{all_located_in};
-ghost use Rattle.ts_crl.specs.EntryView.{listed_in};
+ghost use Rattle.ts_crl.specs.EntryView.{located_items_in};
 
 use ts_der::{Element, Fault};
 use ts_ext::{Extension, Extensions};
@@ -22,7 +22,7 @@ pub(crate) struct ExtensionList<'a> {
 impl<'a> ExtensionList<'a> {
     /// The extensions that a SEQUENCE's content is, whatever their values say.
     pub(crate) fn read(element: Element<'a>) -> Result<ExtensionList<'a>, Fault>
-        ensures { Answers listed_in result (some_of located_in (now element.entry)) }
+        ensures { Answers located_items_in result (some_of located_in (now element.entry)) }
     {
         SequenceOf::<Extension<'a>>::read(element)?;
         Ok(ExtensionList { element })
@@ -30,7 +30,7 @@ impl<'a> ExtensionList<'a> {
 
     /// The extensions.
     pub(crate) fn extensions(self) -> Extensions<'a>
-        ensures { all_located_in result ≡ listed_in self.entry }
+        ensures { all_located_in result ≡ located_items_in self.entry }
     {
         Extensions::within(self.element)
     }

@@ -33,7 +33,7 @@ pub(crate) struct Findings<'a> {
 }
 
 /// The object identifier of an extension of an entry, if it is critical and not processed.
-fn unprocessed<'a>(extension: Extension<'a>) -> Option<&'a [u8]>
+fn unprocessed_id<'a>(extension: Extension<'a>) -> Option<&'a [u8]>
     ensures { option_copied result
         ≡ unprocessed_in EntryHolder (extension_as extension.entry ∷ []) }
 {
@@ -81,7 +81,7 @@ impl<'a> Findings<'a> {
             self.value = extension.first_fault(Holder::Entry);
         }
         if self.unprocessed.is_none() {
-            self.unprocessed = unprocessed(extension);
+            self.unprocessed = unprocessed_id(extension);
         }
         self.names_issuer = self.names_issuer || is_issuer(extension);
     }

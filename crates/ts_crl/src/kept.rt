@@ -9,17 +9,18 @@ ghost use Rattle.ts_shape.specs.Fields.{optional_of};
 ghost use Rattle.ts_shape.specs.Items.{alone, of_tag, some_of};
 ghost use Rattle.ts_shape.specs.Steps.{Takes};
 ghost use Rattle.ts_ext.specs.Extension.{located_in};
-ghost use Rattle.ts_crl.specs.EntryView.{listed_in, placed_in, revoked_in};
-ghost use Rattle.ts_crl.specs.Kept.{EntriesRead, TbsRead, SignedRead, WasRead};
+ghost use Rattle.ts_crl.specs.EntryView.{located_items_in, placed_in, revoked_in};
+ghost use Rattle.ts_crl.specs.inside.Kept.{EntriesRead, TbsRead, SignedRead, WasRead};
 ghost use Rattle.ts_crl.specs.ListView.{tbs_in, located_list_in};
-ghost use Rattle.ts_crl.specs.Reading.{wrapped_extensions_of, revoked_of, tbs_of, signed_of};
-ghost use Rattle.ts_crl.specs.Reading.{whole_of};
+ghost use Rattle.ts_crl.specs.Reading.{wrapped_extensions_of, revoked_of, crl_tbs_of};
+ghost use Rattle.ts_crl.specs.Reading.{crl_signed_of};
+ghost use Rattle.ts_crl.specs.Reading.{crl_whole_of};
 
 use crate::crl::Crl;
 use crate::extension_list::ExtensionList;
 use crate::findings::Findings;
-use crate::placed::Placed;
-use crate::revoked::Revoked;
+use crate::placed::PlacedFault;
+use crate::revoked::RevokedEntries;
 use crate::tbs::{TbsCertList, stamp_if_any};
 use crate::update::next_update;
 use crate::version::next_version;
@@ -48,7 +49,7 @@ fn next_name<'a>(fields: &mut Reader<'a>) -> Result<Name<'a>, Fault>
 fn next_revoked_if_any<'a>(
     fields: &mut Reader<'a>,
     first: Option<CertFault>,
-) -> Result<Option<Revoked<'a>>, Fault>
+) -> Result<Option<RevokedEntries<'a>>, Fault>
     requires { EntriesRead first fields.now }
     ensures { Takes (option_map revoked_in) fields.new result
         (optional_of 0x30 revoked_of fields.old) }
@@ -59,7 +60,7 @@ fn next_revoked_if_any<'a>(
                 old_version: first,
                 ..Findings::none()
             };
-            Ok(Some(Revoked { element, findings }))
+            Ok(Some(RevokedEntries { element, findings }))
         }
         None => Ok(None),
     }
@@ -69,7 +70,7 @@ fn next_revoked_if_any<'a>(
 #[tactic(auto, unfolding(ts_shape::specs::Items::alone, ts_shape::specs::Items::each, ts_shape::specs::Items::of_tag))]
 fn alone_in<'a>(element: Element<'a>) -> Result<ExtensionList<'a>, Fault>
     requires { IsOk (alone (of_tag 0x30 (some_of located_in)) (now element)) }
-    ensures { Answers listed_in result
+    ensures { Answers located_items_in result
         (alone (of_tag 0x30 (some_of located_in)) (now element.entry)) }
 {
     let mut fields = element.reader();
@@ -80,14 +81,14 @@ fn alone_in<'a>(element: Element<'a>) -> Result<ExtensionList<'a>, Fault>
 
 /// The extensions of a CRL, where they are next.
 #[tactic(auto, unfolding(ts_shape::specs::Fields::optional_of, ts_der::specs::Reading::optional_at, crate::specs::Reading::wrapped_extensions_of))]
-fn next_extensions_if_any<'a>(fields: &mut Reader<'a>) -> Result<Option<Placed<'a>>, Fault>
+fn next_extensions_if_any<'a>(fields: &mut Reader<'a>) -> Result<Option<PlacedFault<'a>>, Fault>
     requires { IsOk (optional_of 0xA0 wrapped_extensions_of fields.now) }
     ensures { Takes (option_map placed_in) fields.new result
         (optional_of 0xA0 wrapped_extensions_of fields.old) }
 {
     match fields.optional(CRL_EXTENSIONS)? {
         Some(explicit) => {
-            Ok(Some(Placed {
+            Ok(Some(PlacedFault {
                 at: explicit.at,
                 list: alone_in(explicit)?,
             }))
@@ -97,13 +98,13 @@ fn next_extensions_if_any<'a>(fields: &mut Reader<'a>) -> Result<Option<Placed<'
 }
 
 /// The fields that a SEQUENCE holds.
-#[tactic(auto, unfolding(crate::specs::Reading::tbs_of))]
+#[tactic(auto, unfolding(crate::specs::Reading::crl_tbs_of))]
 fn tbs_in_element<'a>(
     element: Element<'a>,
     first: Option<CertFault>,
 ) -> Result<TbsCertList<'a>, CertFault>
     requires { TbsRead first (now element) }
-    ensures { Answers tbs_in result (tbs_of (now element.entry)) }
+    ensures { Answers tbs_in result (crl_tbs_of (now element.entry)) }
 {
     let mut fields = element.reader();
     let version = next_version(&mut fields)?;
@@ -126,10 +127,10 @@ fn tbs_in_element<'a>(
 }
 
 /// The parts that a SEQUENCE holds.
-#[tactic(auto, unfolding(crate::specs::Reading::signed_of))]
+#[tactic(auto, unfolding(crate::specs::Reading::crl_signed_of))]
 fn signed_in<'a>(element: Element<'a>, first: Option<CertFault>) -> Result<Crl<'a>, CertFault>
     requires { SignedRead first (now element) }
-    ensures { Answers located_list_in result (signed_of (now element.entry)) }
+    ensures { Answers located_list_in result (crl_signed_of (now element.entry)) }
 {
     let mut fields = element.reader();
     let tbs = fields.element(SEQUENCE)?;
@@ -154,10 +155,10 @@ fn signed_in<'a>(element: Element<'a>, first: Option<CertFault>) -> Result<Crl<'
 }
 
 /// The CRL that octets are.
-#[tactic(auto, unfolding(crate::specs::Reading::whole_of))]
+#[tactic(auto, unfolding(crate::specs::Reading::crl_whole_of))]
 pub(crate) fn list_in(octets: &[u8], first: Option<CertFault>) -> Result<Crl<'_>, CertFault>
     requires { WasRead first octets.now }
-    ensures { Answers located_list_in result (whole_of octets.now) }
+    ensures { Answers located_list_in result (crl_whole_of octets.now) }
 {
     let mut reader = Reader::new(octets);
     let crl = signed_in(reader.element(SEQUENCE)?, first)?;

@@ -16,8 +16,8 @@ ghost use Rattle.ts_crl.specs.Encoding.{IsTbsCertList, IsCertificateList};
 ghost use Rattle.ts_crl.specs.Entries.{entries_of};
 ghost use Rattle.ts_crl.specs.Profile.{scope_of};
 ghost use Rattle.ts_ext.specs.Stated.{IsStated};
-ghost use Rattle.ts_crl.specs.Values.{is_known, extensions_of, entry_extensions_of, number_of};
-ghost use Rattle.ts_crl.specs.Values.{base_of, key_of, reason_of, date_of};
+ghost use Rattle.ts_crl.specs.Values.{is_known, list_extensions, entry_extensions_of, crl_number};
+ghost use Rattle.ts_crl.specs.Values.{base_number, key_of, reason_of, date_of};
 
 /// No two lists of octets are one CRL, and none is two.
 pub fn one_list()
@@ -39,17 +39,17 @@ pub fn one_signed_content()
 pub fn no_missing_value()
     ensures scope { (octets : List ℕ) (c : CertificateList) → IsCertificateList octets c
         → IsStated (Within 0x30 IsIssuingPoint)
-        (find (is_known IssuingDistributionPoint) (extensions_of c)) (scope_of c) }
+        (find (is_known IssuingDistributionPoint) (list_extensions c)) (scope_of c) }
     ensures number { (octets : List ℕ) (c : CertificateList) → IsCertificateList octets c
-        → IsStated (Within 0x02 IsCrlNumber) (find (is_known CrlNumber) (extensions_of c))
-        (number_of c) }
+        → IsStated (Within 0x02 IsCrlNumber) (find (is_known CrlNumber) (list_extensions c))
+        (crl_number c) }
     // BaseCRLNumber ::= CRLNumber (RFC 5280 5.2.4).
     ensures base { (octets : List ℕ) (c : CertificateList) → IsCertificateList octets c
-        → IsStated (Within 0x02 IsCrlNumber) (find (is_known DeltaCrlIndicator) (extensions_of c))
-        (base_of c) }
+        → IsStated (Within 0x02 IsCrlNumber) (find (is_known DeltaCrlIndicator) (list_extensions c))
+        (base_number c) }
     ensures key { (octets : List ℕ) (c : CertificateList) → IsCertificateList octets c
         → IsStated (Within 0x30 IsAuthorityKey)
-        (find (is_known AuthorityKeyIdentifier) (extensions_of c)) (key_of c) }
+        (find (is_known AuthorityKeyIdentifier) (list_extensions c)) (key_of c) }
     ensures reason { (octets : List ℕ) (c : CertificateList) → IsCertificateList octets c
         → All (λ e. IsStated (Within 0x0A IsReasonCode)
         (find (is_known ReasonCode) (entry_extensions_of e)) (reason_of e)) (entries_of c) }

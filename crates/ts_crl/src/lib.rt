@@ -28,8 +28,8 @@
 //! - `Crl::tbs`, `version`, `issuer`, `this_update`, `next_update`, `extensions`,
 //!   `signature_algorithm`, `signature`: the fields of the record; what is signed is the first
 //!   element within the CRL, header included (their clauses, with `found` of `read`).
-//! - `Crl::revoked`, `Revoked::iter`: the entries, in their order; a CRL without the field is
-//!   distinguished from one without entries.
+//! - `Crl::revoked`, `RevokedEntries::iter`: the entries, in their order; a CRL without the field
+//!   is distinguished from one without entries.
 //! - `Crl::scope`, `crl_number`, `base_crl_number`, `authority_key_identifier`: the CRL's issuing
 //!   distribution point, its number, the number of the base CRL whose changes a delta CRL states,
 //!   and the identifier of the key that signed it.
@@ -79,5 +79,5 @@ pub use entry::Entry;
 pub use fault::CrlFault;
 pub use numbers::is_lower_number;
 pub use owned::{OwnedCrl, OwnedCrlFault};
-pub use revoked::Revoked;
+pub use revoked::RevokedEntries;
 pub use version::ListVersion;

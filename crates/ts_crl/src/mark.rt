@@ -2,8 +2,8 @@
 
 ghost use Rattle.ts_der.specs.Answer.{Answers};
 ghost use Rattle.ts_der.specs.View.{now};
-ghost use Rattle.ts_crl.specs.Marks.{mark_of};
-ghost use Rattle.ts_crl.specs.MarkView.{mark_as};
+ghost use Rattle.ts_crl.specs.inside.Marks.{mark_of};
+ghost use Rattle.ts_crl.specs.inside.MarkView.{mark_as};
 
 use ts_der::tag::INTEGER;
 use ts_der::{Element, Fault};
@@ -19,7 +19,7 @@ pub(crate) struct Mark<'a> {
 }
 
 impl<'a> FromElement<'a> for Mark<'a> {
-    ghost use Rattle.ts_crl.specs.Marks.{Mark as Stated, mark_of as reading_of};
+    ghost use Rattle.ts_crl.specs.inside.Marks.{Mark as Stated, mark_of as reading_of};
 
     ghost Record = { Stated };
 
@@ -36,7 +36,7 @@ impl<'a> FromElement<'a> for Mark<'a> {
 
 /// The serial number of the entry that an element is. It is refused where its content does not
 /// begin with an INTEGER; what follows that is not read.
-#[tactic(auto, unfolding(crate::specs::Marks::mark_of))]
+#[tactic(auto, unfolding(crate::specs::inside::Marks::mark_of))]
 fn read_mark<'a>(element: Element<'a>) -> Result<Mark<'a>, Fault>
     ensures { Answers mark_as result (mark_of (now element.entry)) }
 {

@@ -12,17 +12,18 @@ ghost use Rattle.ts_ext.specs.Extension.{located_in};
 ghost use Rattle.ts_ext.specs.ExtensionView.{located_as};
 ghost use Rattle.ts_crl.specs.declared.extension_rule.ExtensionRule.TheVariants.{OldVersion};
 ghost use Rattle.ts_crl.specs.declared.extension_rule.ExtensionRule.TheVariants.{Repeated};
-ghost use Rattle.ts_crl.specs.EntryView.{listed_in, placed_in};
-ghost use Rattle.ts_crl.specs.Findings.{findings_of, found_in, found_if_any, Notes, NotesNext};
-ghost use Rattle.ts_crl.specs.Findings.{NotesAmong};
+ghost use Rattle.ts_crl.specs.EntryView.{located_items_in, placed_in};
+ghost use Rattle.ts_crl.specs.Findings.{findings_of};
+ghost use Rattle.ts_crl.specs.inside.Findings.{found_in, found_if_any, Notes, NotesNext};
+ghost use Rattle.ts_crl.specs.inside.Findings.{NotesAmong};
 ghost use Rattle.ts_crl.specs.FindingsView.{findings_in};
-ghost use Rattle.ts_crl.specs.Reading.{extensions_of, entry_of, entry_in};
+ghost use Rattle.ts_crl.specs.Reading.{located_extensions_of, entry_of, located_entry_of};
 ghost use Rattle.ts_crl.specs.Rules.{rule_fault as rule_fault_of};
 
 use crate::extension_list::ExtensionList;
 use crate::extension_rule::ExtensionRule;
 use crate::findings::Findings;
-use crate::placed::Placed;
+use crate::placed::PlacedFault;
 use crate::rules::rule_fault;
 use ts_der::tag::SEQUENCE;
 use ts_der::{DerFault, Element, Fault, Reader};
@@ -62,7 +63,11 @@ fn note_extensions<'a>(element: Element<'a>, findings: &mut Findings<'a>) -> Res
 
 /// A fault that was found before, else the first place at which the extensions of an entry break a
 /// rule.
-fn or_fault(found: Option<CertFault>, rule: ExtensionRule, placed: Placed<'_>) -> Option<CertFault>
+fn or_fault(
+    found: Option<CertFault>,
+    rule: ExtensionRule,
+    placed: PlacedFault<'_>,
+) -> Option<CertFault>
     ensures { result ≡ (found or_else rule_fault_of rule EntryHolder (placed_in placed.entry)) }
 {
     match found {
@@ -73,8 +78,8 @@ fn or_fault(found: Option<CertFault>, rule: ExtensionRule, placed: Placed<'_>) -
 
 /// A fault that was found before, else the first place at which an extension of an entry repeats
 /// one before it. The extensions are counted: one alone repeats none.
-fn or_repeat(found: Option<CertFault>, placed: Placed<'_>, count: usize) -> Option<CertFault>
-    requires { count ≡ length (listed_in placed.list) }
+fn or_repeat(found: Option<CertFault>, placed: PlacedFault<'_>, count: usize) -> Option<CertFault>
+    requires { count ≡ length (located_items_in placed.list) }
     ensures { result ≡ (found or_else rule_fault_of Repeated EntryHolder (placed_in placed.entry)) }
 {
     if count > 1 {
@@ -86,13 +91,13 @@ fn or_repeat(found: Option<CertFault>, placed: Placed<'_>, count: usize) -> Opti
 
 /// Reads the extensions of an entry, which are those that a SEQUENCE is, and adds what is found in
 /// them.
-#[tactic(auto, unfolding(crate::specs::Reading::extensions_of))]
+#[tactic(auto, unfolding(crate::specs::Reading::located_extensions_of))]
 fn note_placed<'a>(element: Element<'a>, findings: &mut Findings<'a>) -> Result<(), Fault>
     ensures { Notes found_in (findings_in findings.old) (findings_in findings.new) result
-        (extensions_of (now element.entry)) }
+        (located_extensions_of (now element.entry)) }
 {
     let count = note_extensions(element, findings)?;
-    let placed = Placed {
+    let placed = PlacedFault {
         at: element.at,
         list: ExtensionList { element },
     };
@@ -108,7 +113,7 @@ fn note_extensions_if_any<'a>(
     findings: &mut Findings<'a>,
 ) -> Result<(), Fault>
     ensures { NotesNext found_if_any fields.new (findings_in findings.old)
-        (findings_in findings.new) result (optional_of 0x30 extensions_of fields.old) }
+        (findings_in findings.new) result (optional_of 0x30 located_extensions_of fields.old) }
 {
     match fields.optional(SEQUENCE)? {
         Some(element) => note_placed(element, findings),
@@ -135,7 +140,7 @@ fn note_entry<'a>(element: Element<'a>, findings: &mut Findings<'a>) -> Result<(
 #[tactic(auto, unfolding(ts_shape::specs::Items::each, ts_shape::specs::Items::of_tag))]
 pub(crate) fn note_next<'a>(rest: &mut Reader<'a>, findings: &mut Findings<'a>) -> Result<(), Fault>
     ensures { NotesNext (λ x. findings_of (x ∷ [])) rest.new (findings_in findings.old)
-        (findings_in findings.new) result (each entry_in rest.old) }
+        (findings_in findings.new) result (each located_entry_of rest.old) }
 {
     note_entry(tagged_as(rest.next()?, SEQUENCE)?, findings)
 }

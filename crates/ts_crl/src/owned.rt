@@ -3,8 +3,9 @@
 ghost use Rattle.std.specs.Prelude.{◌≡◌, ◌⊎◌, ℕ, List, Some, None, Ok, Err, option_map, IfErr};
 ghost use Rattle.std.specs.Prelude.{IsErrAnd};
 ghost use Rattle.ts_crl.specs.Fault.{ListFault};
-ghost use Rattle.ts_crl.specs.Kept.{kept_text, unreadable_in, RefusedFor, first_place, WasRead};
-ghost use Rattle.ts_crl.specs.Kept.{Checks};
+ghost use Rattle.ts_crl.specs.Kept.{kept_text, unreadable_in, RefusedFor};
+ghost use Rattle.ts_crl.specs.inside.Kept.{first_place, WasRead};
+ghost use Rattle.ts_crl.specs.inside.Kept.{Checks};
 ghost use Rattle.ts_crl.specs.EntryView.{revoked_in};
 ghost use Rattle.ts_crl.specs.ListView.{crl_in, located_list_in};
 ghost use Rattle.ts_digest.specs.Message.{IsDigestOf};
@@ -71,7 +72,7 @@ impl Model for OwnedCrl {
     ghost use Rattle.std.specs.Prelude.{List, ℕ};
     ghost use Rattle.ts_digest.specs.Message.{IsDigestOf};
     ghost use Rattle.ts_crl.specs.OwnedView.{list_of};
-    ghost use Rattle.ts_crl.specs.Kept.{WasRead};
+    ghost use Rattle.ts_crl.specs.inside.Kept.{WasRead};
 
     ghost Value = { List ℕ };
 
@@ -93,7 +94,7 @@ fn first_extensions<'a>(crl: &Crl<'a>) -> Option<CertFault>
 
 /// What has to be known of octets that are a CRL so that `view` need not read it again.
 #[derive(Drop)]
-struct Checked {
+struct CheckedParts {
     first: Option<CertFault>,
     digest: Digest,
 }
@@ -110,13 +111,13 @@ fn digest_of(crl: &Crl<'_>) -> Digest
 
 /// Checks octets, and gives what has to be known of a CRL so that `view` need not read it again.
 #[tactic(auto, unfolding(crate::specs::Table::crl_of))]
-fn check<'a>(octets: &'a [u8]) -> Result<Checked, CrlFault<'a>>
+fn check<'a>(octets: &'a [u8]) -> Result<CheckedParts, CrlFault<'a>>
     ensures { Checks octets.now result }
 {
     let crl = read_shape(octets)?;
     match broken_rule(&crl) {
         Some(fault) => Err(fault),
-        None => Ok(Checked {
+        None => Ok(CheckedParts {
             first: first_extensions(&crl),
             digest: digest_of(&crl),
         }),
@@ -125,7 +126,7 @@ fn check<'a>(octets: &'a [u8]) -> Result<Checked, CrlFault<'a>>
 
 /// Checks shared octets, and gives what has to be known of a CRL so that `view` need not read it
 /// again.
-fn check_shared(octets: &Octets) -> Result<Checked, CrlFault<'_>>
+fn check_shared(octets: &Octets) -> Result<CheckedParts, CrlFault<'_>>
     ensures { Checks octets.now result }
 {
     check(octets.as_slice())
@@ -165,7 +166,7 @@ impl OwnedCrl {
             → IsErrAnd result (λ e. unreadable_in e ≡ Some f) }
         ensures exact { IfErr result (λ e. RefusedFor octets.now e) }
     {
-        let Checked { first, digest } = match check(octets) {
+        let CheckedParts { first, digest } = match check(octets) {
             Ok(checked) => checked,
             Err(fault) => return Err(OwnedCrlFault::Unreadable(fault)),
         };
@@ -189,7 +190,7 @@ impl OwnedCrl {
             → IsErrAnd result (λ e. unreadable_in e ≡ Some f) }
         ensures exact { IfErr result (λ e. RefusedFor octets.now e) }
     {
-        let Checked { first, digest } = match check_shared(octets) {
+        let CheckedParts { first, digest } = match check_shared(octets) {
             Ok(checked) => checked,
             Err(fault) => return Err(OwnedCrlFault::Unreadable(fault)),
         };

@@ -7,8 +7,8 @@ ghost use Rattle.ts_shape.specs.Fields.{optional_of};
 ghost use Rattle.ts_shape.specs.Items.{alone, of_tag, some_of};
 ghost use Rattle.ts_shape.specs.Steps.{Takes};
 ghost use Rattle.ts_ext.specs.Extension.{located_in};
-ghost use Rattle.ts_crl.specs.EntryView.{listed_in, placed_in};
-ghost use Rattle.ts_crl.specs.Reading.{extensions_of, wrapped_extensions_of};
+ghost use Rattle.ts_crl.specs.EntryView.{located_items_in, placed_in};
+ghost use Rattle.ts_crl.specs.Reading.{located_extensions_of, wrapped_extensions_of};
 
 use crate::extension_list::ExtensionList;
 use ts_der::tag::SEQUENCE;
@@ -20,7 +20,7 @@ const CRL_EXTENSIONS: u8 = 0xA0;
 
 /// The extensions of a CRL or of an entry (RFC 5280 5.1.2.7, 5.3).
 #[derive(Clone, Copy)]
-pub(crate) struct Placed<'a> {
+pub(crate) struct PlacedFault<'a> {
     /// The offset of the element that holds them: of a CRL the explicit tag, of an entry the
     /// SEQUENCE.
     pub at: usize,
@@ -29,11 +29,11 @@ pub(crate) struct Placed<'a> {
 }
 
 /// The extensions that a SEQUENCE is.
-#[tactic(auto, unfolding(crate::specs::Reading::extensions_of))]
-fn read_extensions<'a>(element: Element<'a>) -> Result<Placed<'a>, Fault>
-    ensures { Answers placed_in result (extensions_of (now element.entry)) }
+#[tactic(auto, unfolding(crate::specs::Reading::located_extensions_of))]
+fn read_extensions<'a>(element: Element<'a>) -> Result<PlacedFault<'a>, Fault>
+    ensures { Answers placed_in result (located_extensions_of (now element.entry)) }
 {
-    Ok(Placed {
+    Ok(PlacedFault {
         at: element.at,
         list: ExtensionList::read(element)?,
     })
@@ -42,7 +42,7 @@ fn read_extensions<'a>(element: Element<'a>) -> Result<Placed<'a>, Fault>
 /// The extensions that a SEQUENCE within an element is, and nothing after it.
 #[tactic(auto, unfolding(ts_shape::specs::Items::alone, ts_shape::specs::Items::each, ts_shape::specs::Items::of_tag))]
 fn read_alone<'a>(element: Element<'a>) -> Result<ExtensionList<'a>, Fault>
-    ensures { Answers listed_in result
+    ensures { Answers located_items_in result
         (alone (of_tag 0x30 (some_of located_in)) (now element.entry)) }
 {
     let mut fields = element.reader();
@@ -53,10 +53,10 @@ fn read_alone<'a>(element: Element<'a>) -> Result<ExtensionList<'a>, Fault>
 
 /// The extensions that an explicit tag holds.
 #[tactic(auto, unfolding(crate::specs::Reading::wrapped_extensions_of))]
-fn read_wrapped<'a>(element: Element<'a>) -> Result<Placed<'a>, Fault>
+fn read_wrapped<'a>(element: Element<'a>) -> Result<PlacedFault<'a>, Fault>
     ensures { Answers placed_in result (wrapped_extensions_of (now element.entry)) }
 {
-    Ok(Placed {
+    Ok(PlacedFault {
         at: element.at,
         list: read_alone(element)?,
     })
@@ -66,9 +66,9 @@ fn read_wrapped<'a>(element: Element<'a>) -> Result<Placed<'a>, Fault>
 #[tactic(auto, unfolding(ts_shape::specs::Fields::optional_of, ts_der::specs::Reading::optional_at))]
 pub(crate) fn next_extensions_if_any<'a>(
     fields: &mut Reader<'a>,
-) -> Result<Option<Placed<'a>>, Fault>
+) -> Result<Option<PlacedFault<'a>>, Fault>
     ensures { Takes (option_map placed_in) fields.new result
-        (optional_of 0x30 extensions_of fields.old) }
+        (optional_of 0x30 located_extensions_of fields.old) }
 {
     match fields.optional(SEQUENCE)? {
         Some(element) => Ok(Some(read_extensions(element)?)),
@@ -78,7 +78,9 @@ pub(crate) fn next_extensions_if_any<'a>(
 
 /// The extensions of a CRL, where they are next.
 #[tactic(auto, unfolding(ts_shape::specs::Fields::optional_of, ts_der::specs::Reading::optional_at))]
-pub(crate) fn next_wrapped_if_any<'a>(fields: &mut Reader<'a>) -> Result<Option<Placed<'a>>, Fault>
+pub(crate) fn next_wrapped_if_any<'a>(
+    fields: &mut Reader<'a>,
+) -> Result<Option<PlacedFault<'a>>, Fault>
     ensures { Takes (option_map placed_in) fields.new result
         (optional_of 0xA0 wrapped_extensions_of fields.old) }
 {

@@ -5,14 +5,15 @@ ghost use Rattle.std.specs.List.{list_any};
 ghost use Rattle.std.specs.Option.{option_copied};
 ghost use Rattle.ts_ext.specs.Extension.{unlocated};
 ghost use Rattle.ts_ext.specs.NameViews.{issuing_point_in};
-ghost use Rattle.ts_crl.specs.EntryView.{listed_in, placed_in, revoked_in};
+ghost use Rattle.ts_crl.specs.EntryView.{located_items_in, placed_in, revoked_in};
 ghost use Rattle.ts_crl.specs.Fault.{fault_in};
 ghost use Rattle.ts_crl.specs.List.{unlocated_extensions, unlocated_entry};
 ghost use Rattle.ts_crl.specs.ListView.{crl_in};
 ghost use Rattle.ts_crl.specs.Profile.{has_number as has_number_of_list};
 ghost use Rattle.ts_crl.specs.Profile.{unprocessed_in as unprocessed_in_list};
 ghost use Rattle.ts_crl.specs.Profile.{unprocessed_of_entries as unprocessed_of};
-ghost use Rattle.ts_crl.specs.Profile.{unprocessed as unprocessed_of_list, names_issuer, as_scope};
+ghost use Rattle.ts_crl.specs.Profile.{first_unprocessed as unprocessed_of_list, names_issuer};
+ghost use Rattle.ts_crl.specs.Profile.{as_scope};
 ghost use Rattle.ts_crl.specs.Profile.{is_relative_name, scope_meets, scope_of};
 ghost use Rattle.ts_crl.specs.Profile.{is_indirect as is_indirect_list};
 ghost use Rattle.ts_crl.specs.Profile.{is_relative as is_relative_list, is_delta as is_delta_list};
@@ -21,15 +22,15 @@ ghost use Rattle.ts_crl.specs.Profile.{profile_fault as profile_fault_of};
 use crate::crl::Crl;
 use crate::extension_list::ExtensionList;
 use crate::fault::CrlFault;
-use crate::placed::Placed;
-use crate::revoked::Revoked;
+use crate::placed::PlacedFault;
+use crate::revoked::RevokedEntries;
 use crate::values::{is_among, value_if_any};
 use ts_ext::{Ext, Holder, IssuingDistributionPoint, Known, PointName};
 
 /// The object identifier of the first critical extension that is not processed.
 fn unprocessed_in<'a>(holder: Holder, list: ExtensionList<'a>) -> Option<&'a [u8]>
     ensures { option_copied result
-        ≡ unprocessed_in_list holder (map unlocated (listed_in list.entry)) }
+        ≡ unprocessed_in_list holder (map unlocated (located_items_in list.entry)) }
 {
     for extension in list.extensions().iter() {
         if extension.critical && Known::at(holder, extension.id).is_none() {
@@ -41,7 +42,7 @@ fn unprocessed_in<'a>(holder: Holder, list: ExtensionList<'a>) -> Option<&'a [u8
 
 /// The object identifier of the first critical extension that is not processed, where there may be
 /// no extensions.
-fn unprocessed_if_any<'a>(holder: Holder, placed: Option<Placed<'a>>) -> Option<&'a [u8]>
+fn unprocessed_if_any<'a>(holder: Holder, placed: Option<PlacedFault<'a>>) -> Option<&'a [u8]>
     ensures { option_copied result
         ≡ unprocessed_in_list holder (unwrap_or
         (option_map unlocated_extensions (option_map placed_in placed.entry)) []) }
@@ -51,7 +52,7 @@ fn unprocessed_if_any<'a>(holder: Holder, placed: Option<Placed<'a>>) -> Option<
 
 /// The object identifier of the first critical extension of entries that is not processed, where
 /// there may be no list of entries. It was found when they were read.
-fn unprocessed_of_entries_if_any<'a>(revoked: Option<Revoked<'a>>) -> Option<&'a [u8]>
+fn unprocessed_of_entries_if_any<'a>(revoked: Option<RevokedEntries<'a>>) -> Option<&'a [u8]>
     ensures { option_copied result
         ≡ unprocessed_of (unwrap_or (option_map (map unlocated_entry)
         (option_map revoked_in revoked.entry)) []) }
@@ -61,7 +62,7 @@ fn unprocessed_of_entries_if_any<'a>(revoked: Option<Revoked<'a>>) -> Option<&'a
 
 /// The object identifier of the first critical extension of a CRL, then of its entries, that is
 /// not processed.
-fn unprocessed<'a>(crl: &Crl<'a>) -> Option<&'a [u8]>
+fn first_unprocessed<'a>(crl: &Crl<'a>) -> Option<&'a [u8]>
     ensures { option_copied result ≡ unprocessed_of_list (crl_in crl.now) }
 {
     match unprocessed_if_any(Holder::List, crl.extensions) {
@@ -72,7 +73,7 @@ fn unprocessed<'a>(crl: &Crl<'a>) -> Option<&'a [u8]>
 
 /// Whether an entry names another issuer, where there may be no list of them: it was found when
 /// they were read.
-fn has_issuer_if_any(revoked: Option<Revoked<'_>>) -> bool
+fn has_issuer_if_any(revoked: Option<RevokedEntries<'_>>) -> bool
     ensures { result ≡ list_any names_issuer
         (unwrap_or (option_map (map unlocated_entry) (option_map revoked_in revoked.entry)) []) }
 {
@@ -138,7 +139,7 @@ pub(crate) fn profile_fault<'a>(crl: &Crl<'a>) -> Option<CrlFault<'a>>
     if crl.next_update.is_none() {
         return Some(CrlFault::NoNextUpdate);
     }
-    if let Some(oid) = unprocessed(crl) {
+    if let Some(oid) = first_unprocessed(crl) {
         return Some(CrlFault::CriticalCrlExtension(oid));
     }
     if is_indirect(crl) {

@@ -4,21 +4,21 @@ ghost use Rattle.std.specs.Prelude.{◌≡◌, [], map, unwrap_or, option_map};
 ghost use Rattle.ts_ext.specs.declared.known.Holder.TheVariants.{List as ListHolder};
 ghost use Rattle.ts_ext.specs.ExtensionView.{located_as};
 ghost use Rattle.ts_ext.specs.ValueRules.{values_fault as values_fault_of};
-ghost use Rattle.ts_crl.specs.EntryView.{listed_in, placed_in, revoked_in};
+ghost use Rattle.ts_crl.specs.EntryView.{located_items_in, placed_in, revoked_in};
 ghost use Rattle.ts_crl.specs.ListView.{located_list_in};
 ghost use Rattle.ts_crl.specs.Rules.{located_as_ruled, all_located_as_ruled};
 ghost use Rattle.ts_crl.specs.Rules.{rule_fault as rule_fault_of, fault_if_any as fault_if_any_of};
 ghost use Rattle.ts_crl.specs.Rules.{entries_fault as entries_fault_of};
 ghost use Rattle.ts_crl.specs.Rules.{fault_by_place as fault_by_place_of};
-ghost use Rattle.ts_crl.specs.Rules.{version_fault as version_fault_of};
-ghost use Rattle.ts_crl.specs.Rules.{algorithms_fault as algorithms_fault_of};
+ghost use Rattle.ts_crl.specs.Rules.{crl_version_fault as version_fault_of};
+ghost use Rattle.ts_crl.specs.Rules.{crl_algorithms_fault as algorithms_fault_of};
 ghost use Rattle.ts_crl.specs.Rules.{placed_fault as placed_fault_of};
 
 use crate::crl::Crl;
 use crate::extension_list::ExtensionList;
 use crate::extension_rule::ExtensionRule;
-use crate::placed::Placed;
-use crate::revoked::Revoked;
+use crate::placed::PlacedFault;
+use crate::revoked::RevokedEntries;
 use crate::values::with_number;
 use crate::version::ListVersion;
 use ts_ext::{Extension, Holder, Known};
@@ -39,7 +39,8 @@ fn as_ruled<'a>(extension: Extension<'a>) -> Extension<'a>
 
 /// The first rule that the values of the extensions of a CRL break.
 fn list_values_fault(list: ExtensionList<'_>) -> Option<CertFault>
-    ensures { result ≡ values_fault_of ListHolder (map located_as_ruled (listed_in list.entry)) }
+    ensures { result ≡ values_fault_of ListHolder
+        (map located_as_ruled (located_items_in list.entry)) }
 {
     for extension in list.extensions().iter() {
         if let Some(fault) = as_ruled(extension).first_fault(Holder::List) {
@@ -51,7 +52,8 @@ fn list_values_fault(list: ExtensionList<'_>) -> Option<CertFault>
 
 /// The first rule that the values of extensions break.
 fn values_fault(holder: Holder, list: ExtensionList<'_>) -> Option<CertFault>
-    ensures { result ≡ values_fault_of holder (all_located_as_ruled holder (listed_in list.entry)) }
+    ensures { result ≡ values_fault_of holder
+        (all_located_as_ruled holder (located_items_in list.entry)) }
 {
     match holder {
         Holder::List => list_values_fault(list),
@@ -63,7 +65,7 @@ fn values_fault(holder: Holder, list: ExtensionList<'_>) -> Option<CertFault>
 pub(crate) fn rule_fault<'a>(
     rule: ExtensionRule,
     holder: Holder,
-    placed: Placed<'a>,
+    placed: PlacedFault<'a>,
 ) -> Option<CertFault>
     ensures { result ≡ rule_fault_of rule holder (placed_in placed.entry) }
 {
@@ -87,7 +89,7 @@ pub(crate) fn rule_fault<'a>(
 fn fault_if_any(
     rule: ExtensionRule,
     holder: Holder,
-    placed: Option<Placed<'_>>,
+    placed: Option<PlacedFault<'_>>,
 ) -> Option<CertFault>
     ensures { result ≡ fault_if_any_of rule holder (option_map placed_in placed.entry) }
 {
@@ -96,7 +98,7 @@ fn fault_if_any(
 
 /// The first place at which the extensions of entries break a rule, which was found when they were
 /// read.
-fn entries_fault(rule: ExtensionRule, revoked: Revoked<'_>) -> Option<CertFault>
+fn entries_fault(rule: ExtensionRule, revoked: RevokedEntries<'_>) -> Option<CertFault>
     ensures { result ≡ entries_fault_of rule (revoked_in revoked.entry) }
 {
     match rule {
@@ -108,7 +110,10 @@ fn entries_fault(rule: ExtensionRule, revoked: Revoked<'_>) -> Option<CertFault>
 
 /// The first place at which the extensions of entries break a rule, where there may be no list of
 /// entries.
-fn entries_fault_if_any(rule: ExtensionRule, revoked: Option<Revoked<'_>>) -> Option<CertFault>
+fn entries_fault_if_any(
+    rule: ExtensionRule,
+    revoked: Option<RevokedEntries<'_>>,
+) -> Option<CertFault>
     ensures { result ≡ entries_fault_of rule (unwrap_or (option_map revoked_in revoked.entry) []) }
 {
     entries_fault(rule, revoked?)

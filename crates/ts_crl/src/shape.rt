@@ -3,7 +3,7 @@
 ghost use Rattle.ts_der.specs.Answer.{Answers};
 ghost use Rattle.ts_der.specs.View.{now};
 ghost use Rattle.ts_crl.specs.ListView.{located_list_in};
-ghost use Rattle.ts_crl.specs.Reading.{signed_of, whole_of, shape_of};
+ghost use Rattle.ts_crl.specs.Reading.{crl_signed_of, crl_whole_of, shape_of};
 
 use crate::crl::{Crl, MAX_CRL};
 use crate::tbs::read_tbs;
@@ -14,9 +14,9 @@ use ts_field::{next_bits, read_algorithm};
 use ts_shape::{CertFault, CertRule};
 
 /// The parts that a SEQUENCE holds.
-#[tactic(auto, unfolding(crate::specs::Reading::signed_of))]
+#[tactic(auto, unfolding(crate::specs::Reading::crl_signed_of))]
 fn read_signed<'a>(element: Element<'a>) -> Result<Crl<'a>, CertFault>
-    ensures { Answers located_list_in result (signed_of (now element.entry)) }
+    ensures { Answers located_list_in result (crl_signed_of (now element.entry)) }
 {
     let mut fields = element.reader();
     let tbs = fields.element(SEQUENCE)?;
@@ -41,9 +41,9 @@ fn read_signed<'a>(element: Element<'a>) -> Result<Crl<'a>, CertFault>
 }
 
 /// The CRL that octets are, with nothing after it.
-#[tactic(auto, unfolding(crate::specs::Reading::whole_of))]
+#[tactic(auto, unfolding(crate::specs::Reading::crl_whole_of))]
 fn read_whole(octets: &[u8]) -> Result<Crl<'_>, CertFault>
-    ensures { Answers located_list_in result (whole_of octets.now) }
+    ensures { Answers located_list_in result (crl_whole_of octets.now) }
 {
     let mut reader = Reader::new(octets);
     let crl = read_signed(reader.element(SEQUENCE)?)?;

@@ -8,7 +8,7 @@ ghost use Rattle.ts_ext.specs.ExtensionView.{extensions_in};
 ghost use Rattle.ts_crl.specs.EntryView.{extension_as};
 ghost use Rattle.ts_crl.specs.ListView.{crl_in};
 ghost use Rattle.ts_crl.specs.Profile.{is_delta as is_delta_list};
-ghost use Rattle.ts_crl.specs.Slots.{octets_of, is_same_value as are_same_value};
+ghost use Rattle.ts_crl.specs.Slots.{value_octets, is_same_value as are_same_value};
 ghost use Rattle.ts_crl.specs.Slots.{have_same_values as have_same_values_of};
 ghost use Rattle.ts_crl.specs.Slots.{is_same_slot as are_one_slot};
 ghost use Rattle.ts_crl.specs.Values.{is_known};
@@ -65,7 +65,7 @@ fn octets_among<'a>(known: Known, extensions: Extensions<'a>) -> Option<&'a [u8]
 
 /// The octets of an extension's value in a CRL.
 fn value_octets<'a>(known: Known, crl: &Crl<'a>) -> Option<&'a [u8]>
-    ensures { option_map (λ o. o.now) result ≡ octets_of known (crl_in crl.now) }
+    ensures { option_map (λ o. o.now) result ≡ value_octets known (crl_in crl.now) }
 {
     match crl.extensions() {
         Some(extensions) => octets_among(known, extensions),

@@ -5,11 +5,11 @@ ghost use Rattle.ts_der.specs.Answer.{Answers};
 ghost use Rattle.ts_der.specs.View.{now};
 ghost use Rattle.ts_field.specs.View.{time_in};
 ghost use Rattle.ts_crl.specs.ListView.{tbs_in};
-ghost use Rattle.ts_crl.specs.Reading.{tbs_of};
+ghost use Rattle.ts_crl.specs.Reading.{crl_tbs_of};
 
 use crate::entries::next_revoked_if_any;
-use crate::placed::{Placed, next_wrapped_if_any};
-use crate::revoked::Revoked;
+use crate::placed::{PlacedFault, next_wrapped_if_any};
+use crate::revoked::RevokedEntries;
 use crate::update::next_update;
 use crate::version::{ListVersion, next_version};
 use ts_der::Element;
@@ -25,8 +25,8 @@ pub(crate) struct TbsCertList<'a> {
     pub issuer: Name<'a>,
     pub this_update: Stamp,
     pub next_update: Option<Stamp>,
-    pub revoked: Option<Revoked<'a>>,
-    pub extensions: Option<Placed<'a>>,
+    pub revoked: Option<RevokedEntries<'a>>,
+    pub extensions: Option<PlacedFault<'a>>,
 }
 
 /// A time that may be absent, to be kept.
@@ -40,9 +40,9 @@ pub(crate) fn stamp_if_any(time: Option<Time>) -> Option<Stamp>
 }
 
 /// The fields that a SEQUENCE holds.
-#[tactic(auto, unfolding(crate::specs::Reading::tbs_of))]
+#[tactic(auto, unfolding(crate::specs::Reading::crl_tbs_of))]
 pub(crate) fn read_tbs<'a>(element: Element<'a>) -> Result<TbsCertList<'a>, CertFault>
-    ensures { Answers tbs_in result (tbs_of (now element.entry)) }
+    ensures { Answers tbs_in result (crl_tbs_of (now element.entry)) }
 {
     let mut fields = element.reader();
     let version = next_version(&mut fields)?;

@@ -8,14 +8,14 @@ ghost use Rattle.ts_ext.specs.declared.known.Known.TheVariants.{DeltaCrlIndicato
 ghost use Rattle.ts_ext.specs.ExtensionView.{located_as};
 ghost use Rattle.ts_ext.specs.ExtView.{ext_in};
 ghost use Rattle.ts_ext.specs.Known.{known_at};
-ghost use Rattle.ts_crl.specs.EntryView.{extension_as, listed_in, placed_in};
+ghost use Rattle.ts_crl.specs.EntryView.{extension_as, located_items_in, placed_in};
 ghost use Rattle.ts_crl.specs.List.{unlocated_extensions};
 ghost use Rattle.ts_crl.specs.Values.{is_known, value_in_octets, value_if_any as value_of_if_any};
 ghost use Rattle.ts_crl.specs.Values.{value_among, with_number as said_with_number};
 ghost use Rattle.ts_crl.specs.Values.{located_with_number};
 
 use crate::extension_list::ExtensionList;
-use crate::placed::Placed;
+use crate::placed::PlacedFault;
 use ts_der::OidRef;
 use ts_ext::{Ext, Extension, Holder, Known};
 
@@ -35,7 +35,7 @@ fn value_of<'a>(holder: Holder, extension: Extension<'a>) -> Option<Ext<'a>>
 /// The first extension of a list that is this one.
 fn find_in<'a>(known: Known, list: ExtensionList<'a>) -> Option<Extension<'a>>
     ensures { option_map extension_as result
-        ≡ find (is_known known) (map unlocated (listed_in list.entry)) }
+        ≡ find (is_known known) (map unlocated (located_items_in list.entry)) }
 {
     list.extensions().find(known)
 }
@@ -43,7 +43,7 @@ fn find_in<'a>(known: Known, list: ExtensionList<'a>) -> Option<Extension<'a>>
 /// The value of the first extension of a list that is this one.
 fn value_in<'a>(holder: Holder, known: Known, list: ExtensionList<'a>) -> Option<Ext<'a>>
     ensures { option_map ext_in result
-        ≡ value_among holder known (map unlocated (listed_in list.entry)) }
+        ≡ value_among holder known (map unlocated (located_items_in list.entry)) }
 {
     value_of(holder, find_in(known, list)?)
 }
@@ -52,7 +52,7 @@ fn value_in<'a>(holder: Holder, known: Known, list: ExtensionList<'a>) -> Option
 pub(crate) fn value_if_any<'a>(
     holder: Holder,
     known: Known,
-    placed: Option<Placed<'a>>,
+    placed: Option<PlacedFault<'a>>,
 ) -> Option<Ext<'a>>
     ensures { option_map ext_in result
         ≡ value_among holder known (unwrap_or
@@ -78,7 +78,7 @@ pub(crate) fn with_number<'a>(extension: Extension<'a>) -> Extension<'a>
 fn base_in<'a>(list: ExtensionList<'a>) -> Option<Ext<'a>>
     ensures { option_map ext_in result
         ≡ value_of_if_any ListHolder (option_map said_with_number
-        (find (is_known DeltaCrlIndicator) (map unlocated (listed_in list.entry)))) }
+        (find (is_known DeltaCrlIndicator) (map unlocated (located_items_in list.entry)))) }
 {
     value_of(
         Holder::List,
@@ -88,7 +88,7 @@ fn base_in<'a>(list: ExtensionList<'a>) -> Option<Ext<'a>>
 
 /// The value of the first deltaCRLIndicator of a CRL, as that of cRLNumber, where there may be no
 /// extensions.
-pub(crate) fn base_if_any<'a>(placed: Option<Placed<'a>>) -> Option<Ext<'a>>
+pub(crate) fn base_if_any<'a>(placed: Option<PlacedFault<'a>>) -> Option<Ext<'a>>
     ensures { option_map ext_in result
         ≡ value_of_if_any ListHolder (option_map said_with_number
         (find (is_known DeltaCrlIndicator)
@@ -99,13 +99,13 @@ pub(crate) fn base_if_any<'a>(placed: Option<Placed<'a>>) -> Option<Ext<'a>>
 
 /// Whether an extension of a list is this one.
 fn is_in(known: Known, list: ExtensionList<'_>) -> bool
-    ensures { result ≡ list_any (is_known known) (map unlocated (listed_in list.entry)) }
+    ensures { result ≡ list_any (is_known known) (map unlocated (located_items_in list.entry)) }
 {
     find_in(known, list).is_some()
 }
 
 /// Whether some extension is this one, where there may be no extensions.
-pub(crate) fn is_among(known: Known, placed: Option<Placed<'_>>) -> bool
+pub(crate) fn is_among(known: Known, placed: Option<PlacedFault<'_>>) -> bool
     ensures { result ≡ list_any (is_known known)
         (unwrap_or (option_map unlocated_extensions (option_map placed_in placed.entry)) []) }
 {

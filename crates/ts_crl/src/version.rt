@@ -3,7 +3,7 @@
 ghost use Rattle.ts_der.specs.Answer.{Answers};
 ghost use Rattle.ts_der.specs.View.{now};
 ghost use Rattle.ts_shape.specs.Steps.{TakesIn};
-ghost use Rattle.ts_crl.specs.Version.{version_of, version_at};
+ghost use Rattle.ts_crl.specs.Version.{crl_version_of, crl_version_at};
 
 use ts_der::tag::INTEGER;
 use ts_der::{Element, Reader};
@@ -19,9 +19,9 @@ pub enum ListVersion {
 }
 
 /// The version that an INTEGER is.
-#[tactic(auto, unfolding(crate::specs::Version::version_of))]
+#[tactic(auto, unfolding(crate::specs::Version::crl_version_of))]
 fn read_version(element: Element<'_>) -> Result<ListVersion, CertFault>
-    ensures { Answers (λ v. v) result (version_of (now element.entry)) }
+    ensures { Answers (λ v. v) result (crl_version_of (now element.entry)) }
 {
     match element.integer()?.octets {
         [1] => Ok(ListVersion::V2),
@@ -33,9 +33,9 @@ fn read_version(element: Element<'_>) -> Result<ListVersion, CertFault>
 }
 
 /// The version, if one is next, which the reader has then passed; else version 1.
-#[tactic(auto, unfolding(crate::specs::Version::version_at))]
+#[tactic(auto, unfolding(crate::specs::Version::crl_version_at))]
 pub(crate) fn next_version(fields: &mut Reader<'_>) -> Result<ListVersion, CertFault>
-    ensures { TakesIn (λ v. v) fields.new result (version_at fields.old) }
+    ensures { TakesIn (λ v. v) fields.new result (crl_version_at fields.old) }
 {
     match fields.optional(INTEGER)? {
         Some(element) => read_version(element),

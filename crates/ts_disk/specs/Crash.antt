@@ -5,11 +5,11 @@ use Rattle.ts_disk.specs.declared.call.DiskCall.{DiskCall}
 use Rattle.ts_disk.specs.declared.call.DiskCall.TheVariants.{Read, Write, Sync}
 use Rattle.ts_disk.specs.declared.crash.Torn.{Torn}
 use Rattle.ts_disk.specs.declared.crash.Torn.TheVariants.{Old, New, Byte}
-use Rattle.ts_disk.specs.Disk.{written}
+use Rattle.ts_disk.specs.Disk.{overwrite}
 
 -- the image with these octets at an offset, which is not past its end
 abbrev pub written_within : List ℕ → ℕ → List ℕ → List ℕ
-written_within image at octets = cond (nat_le at (length image)) (written image at octets) image
+written_within image at octets = cond (nat_le at (length image)) (overwrite image at octets) image
 
 -- what a crash leaves of a write that isn't synced, over what one before it leaves
 abbrev pub torn_by : Torn → List ℕ → ℕ → List ℕ → List ℕ

@@ -46,8 +46,8 @@ pub record Torn (at n : ℕ) (old new : List ℕ) : Type 0 where
   pub no_longer : length new ≤ max (length old) (at + n)
 
 -- old with these octets at this offset
-abbrev pub written : List ℕ → ℕ → List ℕ → List ℕ
-written old at octets = take at old ++ octets ++ drop (at + length octets) old
+abbrev pub overwrite : List ℕ → ℕ → List ℕ → List ℕ
+overwrite old at octets = take at old ++ octets ++ drop (at + length octets) old
 
 -- a crash now leaves what a read gives, and nothing else
 abbrev pub IsDurable : State → Type 0

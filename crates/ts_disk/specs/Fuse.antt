@@ -28,8 +28,8 @@ is_refused plan = is_past plan.passing (up_to_last plan.made 1)
     || is_at plan.fails_at (up_to_last plan.made 1)
 
 -- one call more is made
-abbrev pub called : Plan → Plan
-called plan = record {
+abbrev pub one_call_more : Plan → Plan
+one_call_more plan = record {
   made = up_to_last plan.made 1;
   passing = plan.passing;
   fails_at = plan.fails_at;

@@ -2,7 +2,7 @@
 use Rattle.std.specs.Prelude.{◌≡◌, ◌⊎◌, ◌≤◌, ◌+◌, ℕ, List, [], ◌∷◌, length, cond, nat_le}
 use Rattle.ts_disk.specs.declared.call.DiskCall.{DiskCall}
 use Rattle.ts_disk.specs.declared.call.DiskCall.TheVariants.{Read, Write, Sync}
-use Rattle.ts_disk.specs.Disk.{State, Torn, written}
+use Rattle.ts_disk.specs.Disk.{State, Torn, overwrite}
 
 -- a durable disk with this image
 abbrev pub start : List ℕ → State
@@ -30,7 +30,7 @@ next old image may_leave = record {
 abbrev pub after : State → DiskCall → State
 after old Read = old
 after old (Write at octets) =
-    next old (cond (nat_le at (length old.read)) (written old.read at octets.items) old.read)
+    next old (cond (nat_le at (length old.read)) (overwrite old.read at octets.items) old.read)
     (λ c. (d : List ℕ) × old.may_leave d × Torn at (length octets.items) d c)
 after old Sync = next old old.read (λ c. c ≡ old.read)
 

@@ -6,7 +6,7 @@ use Rattle.std.proofs.Common.{nat_le}
 use Rattle.std.proofs.lemmas.List.{take_at, drop_at}
 use Rattle.std.proofs.lemmas.Bool.Decides.{nat_tests}
 use Rattle.std.specs.declared.alloc.Global.{Global}
-use Rattle.ts_disk.specs.Disk.{State, IsDisk, IsDurable, Call, Same, Torn, written}
+use Rattle.ts_disk.specs.Disk.{State, IsDisk, IsDurable, Call, Same, Torn, overwrite}
 use Rattle.ts_disk.specs.Past.{start, next, after, after_all, history}
 use Rattle.ts_disk.specs.declared.call.DiskCall.{DiskCall}
 use Rattle.ts_disk.specs.declared.call.DiskCall.TheVariants.{Read, Write, Sync}
@@ -51,7 +51,7 @@ torn_same at n c = record {
 }
 
 pub torn_written : (at : ℕ) (old octets : List ℕ) → at ≤ length old
-    → Torn at (length octets) old (written old at octets)
+    → Torn at (length octets) old (overwrite old at octets)
 torn_written at old octets le =
     let front : length (take at old) ≡ at = omega (arith, length-take at old, le) in
     let both : length (take at old ++ octets) ≡ at + length octets =
@@ -76,13 +76,13 @@ torn_written at old octets le =
       );
     }
   where
-    grouped : length (take at old) ≡ at → take at (written old at octets) ≡ take at old
+    grouped : length (take at old) ≡ at → take at (overwrite old at octets) ≡ take at old
     grouped front = ap (take at) (append_assoc (take at old) octets
         (drop (at + length octets) old)) ∙ take_at (take at old)
         (octets ++ drop (at + length octets) old) at front
 
 pub torn_if : (b : Bool) (at : ℕ) (old octets : List ℕ) → nat_le at (length old) ≡ b
-    → Torn at (length octets) old (cond b (written old at octets) old)
+    → Torn at (length octets) old (cond b (overwrite old at octets) old)
 torn_if true at old octets is = torn_written at old octets (grind (arith, nat_tests))
 torn_if false at old octets is = torn_same at (length octets) old
 
@@ -129,11 +129,11 @@ cond_true b x y is = ap (λ b. cond b x y) is
 pub write_same : (first : List ℕ) (calls : List DiskCall) (at : ℕ) (v : Vec ℕ Global)
     → at ≤ length (history first calls).read
     → (history first (calls ++ Write at v ∷ [])).read
-    ≡ written (history first calls).read at v.items
+    ≡ overwrite (history first calls).read at v.items
 write_same first calls at v le =
     let past = history first calls in
     after_last (start first) calls (Write at v) ∙ cond_true (nat_le at (length past.read))
-    (written past.read at v.items) past.read (grind (arith, nat_tests))
+    (overwrite past.read at v.items) past.read (grind (arith, nat_tests))
 
 -- what a call does to the images
 next_call : (s : State) (image : List ℕ) (may_leave : List ℕ → Type 0)

@@ -2,7 +2,8 @@
 
 ghost use Rattle.std.specs.Prelude.{◌≡◌, ◌≤◌, length, IfOk, OnOk, IfErr};
 ghost use Rattle.ts_disk.specs.declared.fault.DiskFault.TheVariants.{Failed};
-ghost use Rattle.ts_disk.specs.Disk.{State, IsDisk, Call, Same, Torn, written, IsDurable, HasCause};
+ghost use Rattle.ts_disk.specs.Disk.{State, IsDisk, Call, Same, Torn, overwrite, IsDurable};
+ghost use Rattle.ts_disk.specs.Disk.{HasCause};
 
 use crate::DiskFault;
 use std::alloc::Global;
@@ -27,7 +28,7 @@ pub trait Disk {
     fn write_at(&mut self, at: usize, octets: &[u8]) -> Result<(), DiskFault>
         requires { at ≤ length (state self.old).read }
         ensures written { OnOk result ((state self.new).read
-            ≡ written (state self.old).read at octets.now) }
+            ≡ overwrite (state self.old).read at octets.now) }
         ensures call { Call (Torn at (length octets.now)) (state self.old) (state self.new) }
         ensures fault { IfErr result (λ fault. fault ≡ Failed) }
         ensures cause { HasCause (state self.old) (state self.new) result };

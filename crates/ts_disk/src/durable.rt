@@ -2,7 +2,7 @@
 
 ghost use Rattle.std.specs.Prelude.{◌≡◌, ◌≤◌, length, OnOk, IfErr};
 ghost use Rattle.ts_disk.specs.declared.fault.DiskFault.TheVariants.{Failed};
-ghost use Rattle.ts_disk.specs.Disk.{Torn, written, IsDurable, HasCause, EveryImage};
+ghost use Rattle.ts_disk.specs.Disk.{Torn, overwrite, IsDurable, HasCause, EveryImage};
 
 use crate::{Disk, DiskFault};
 
@@ -13,7 +13,7 @@ pub fn put<D: Disk>(disk: &mut D, at: usize, octets: &[u8]) -> Result<(), DiskFa
     requires within { at ≤ length (D.state disk.old).read }
     ensures durable { OnOk result (IsDurable (D.state disk.new)) }
     ensures written { OnOk result ((D.state disk.new).read
-        ≡ written (D.state disk.old).read at octets.now) }
+        ≡ overwrite (D.state disk.old).read at octets.now) }
     ensures moments { EveryImage (Torn at (length octets.now) (D.state disk.old).read)
         (D.state disk.old) (D.state disk.new) }
     ensures fault { IfErr result (λ fault. fault ≡ Failed) }

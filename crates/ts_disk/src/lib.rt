@@ -7,9 +7,9 @@
 //! assert_eq!(rt; disk.octets(), b"octets".as_slice());
 //! ```
 //!
-//! - `Disk::read`, `write_at`, `sync`: `octets`, `written`, `durable`; `call`, which images a crash
-//!   may leave afterwards; `cause`, that a failure is counted.
-//! - `put`: a write and its sync: `written`, `durable`, and `moments`, what each image at each
+//! - `Disk::read`, `write_at`, `sync`: `octets`, `overwrite`, `durable`; `call`, which images a
+//!   crash may leave afterwards; `cause`, that a failure is counted.
+//! - `put`: a write and its sync: `overwrite`, `durable`, and `moments`, what each image at each
 //!   moment has kept.
 //! - `MemDisk::new`, `octets`, `calls`, `set_fuse`, `fail_at`: a disk in memory that keeps its
 //!   calls, and fails when a test wants it to: `plan`, which calls fail; `refused`, that they do.

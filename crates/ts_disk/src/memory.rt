@@ -5,8 +5,8 @@ ghost use Rattle.std.specs.Prelude.{length, true, Some, None, Err, OnOk, OnErr, 
 ghost use Rattle.ts_disk.specs.declared.call.DiskCall.TheVariants.{Read, Write, Sync};
 ghost use Rattle.ts_disk.specs.declared.fault.DiskFault.TheVariants.{Failed};
 ghost use Rattle.ts_disk.specs.declared.crash.Torn.TheVariants.{New};
-ghost use Rattle.ts_disk.specs.Disk.{Call, Same, Torn as TornWrite, written, HasCause};
-ghost use Rattle.ts_disk.specs.Fuse.{up_to_last, is_refused, called};
+ghost use Rattle.ts_disk.specs.Disk.{Call, Same, Torn as TornWrite, overwrite, HasCause};
+ghost use Rattle.ts_disk.specs.Fuse.{up_to_last, is_refused, one_call_more};
 ghost use Rattle.ts_disk.specs.Past.{history};
 
 use crate::crash::leave;
@@ -127,7 +127,7 @@ fn refuses(made: &mut u64, fuse: Option<u64>, fails_at: Option<u64>) -> bool
 }
 
 /// A failure of the device, which is counted.
-fn counted(failures: &mut u64) -> DiskFault
+fn count_failure(failures: &mut u64) -> DiskFault
     ensures fault { result ≡ Failed }
     ensures rises { failures.old ≤ failures.new }
     ensures cause { (failures.old < failures.new) ⊎ (failures.new ≡ 2 ^ 64 - 1) }
@@ -139,7 +139,7 @@ fn counted(failures: &mut u64) -> DiskFault
 /// Writes octets at an offset, over what is there and past the end.
 pub(crate) fn overwrite(old: &mut Vec<u8>, at: usize, octets: &[u8]) -> Result<(), AllocError>
     requires { at ≤ length old.old.items }
-    ensures written { OnOk result (old.new.items ≡ written old.old.items at octets.now) }
+    ensures written { OnOk result (old.new.items ≡ overwrite old.old.items at octets.now) }
     ensures unchanged { OnErr result (old.new.items ≡ old.old.items) }
 {
     let room = (old.len() - at).min(octets.len());
@@ -166,7 +166,7 @@ fn write(
     octets: &[u8],
 ) -> Result<(), AllocError>
     requires { at ≤ length old.old.items }
-    ensures written { OnOk result (old.new.items ≡ written old.old.items at octets.now) }
+    ensures written { OnOk result (old.new.items ≡ overwrite old.old.items at octets.now) }
     ensures kept { OnOk result ((v : _) × (v.items ≡ octets.now)
         × (calls.new.items ≡ calls.old.items ++ Write at v ∷ [])) }
     ensures unchanged { OnErr result (old.new.items ≡ old.old.items) }
@@ -197,36 +197,36 @@ impl Disk for MemDisk {
         ensures call { Call Same (state_of self.old) (state_of self.new) }
         ensures cause { HasCause (state_of self.old) (state_of self.new) result }
         ensures refused { is_refused (plan_of self.old) ≡ true → IsErr result }
-        ensures plan { (plan_of self.new ≡ called (plan_of self.old))
+        ensures plan { (plan_of self.new ≡ one_call_more (plan_of self.old))
             ⊎ ((result ≡ Err Memory) × (plan_of self.new ≡ plan_of self.old)) }
     {
         let octets = self.octets.to_vec(alloc)?;
         if refuses(&mut self.made, self.fuse, self.fails_at) {
-            return Err(counted(&mut self.failures));
+            return Err(count_failure(&mut self.failures));
         }
         match keep(&mut self.calls, DiskCall::Read) {
             Ok(()) => Ok(octets),
-            Err(_) => Err(counted(&mut self.failures)),
+            Err(_) => Err(count_failure(&mut self.failures)),
         }
     }
 
     fn write_at(&mut self, at: usize, octets: &[u8]) -> Result<(), DiskFault>
         requires { at ≤ length (state_of self.old).read }
         ensures written { OnOk result ((state_of self.new).read
-            ≡ written (state_of self.old).read at octets.now) }
+            ≡ overwrite (state_of self.old).read at octets.now) }
         ensures call { Call (TornWrite at (length octets.now)) (state_of self.old)
             (state_of self.new) }
         ensures fault { IfErr result (λ fault. fault ≡ Failed) }
         ensures cause { HasCause (state_of self.old) (state_of self.new) result }
         ensures refused { is_refused (plan_of self.old) ≡ true → result ≡ Err Failed }
-        ensures plan { plan_of self.new ≡ called (plan_of self.old) }
+        ensures plan { plan_of self.new ≡ one_call_more (plan_of self.old) }
     {
         if refuses(&mut self.made, self.fuse, self.fails_at) || octets.len() > MAX_LEN - at {
-            return Err(counted(&mut self.failures));
+            return Err(count_failure(&mut self.failures));
         }
         match write(self.alloc, &mut self.calls, &mut self.octets, at, octets) {
             Ok(()) => Ok(()),
-            Err(_) => Err(counted(&mut self.failures)),
+            Err(_) => Err(count_failure(&mut self.failures)),
         }
     }
 
@@ -237,14 +237,14 @@ impl Disk for MemDisk {
         ensures fault { IfErr result (λ fault. fault ≡ Failed) }
         ensures cause { HasCause (state_of self.old) (state_of self.new) result }
         ensures refused { is_refused (plan_of self.old) ≡ true → result ≡ Err Failed }
-        ensures plan { plan_of self.new ≡ called (plan_of self.old) }
+        ensures plan { plan_of self.new ≡ one_call_more (plan_of self.old) }
     {
         if refuses(&mut self.made, self.fuse, self.fails_at) {
-            return Err(counted(&mut self.failures));
+            return Err(count_failure(&mut self.failures));
         }
         match keep(&mut self.calls, DiskCall::Sync) {
             Ok(()) => Ok(()),
-            Err(_) => Err(counted(&mut self.failures)),
+            Err(_) => Err(count_failure(&mut self.failures)),
         }
     }
 

@@ -1,5 +1,6 @@
 -- The verification of a signature (FIPS 186-5 6.4.2) as a function that computes a truth value.
-use Rattle.std.specs.Prelude.{ℕ, ◌+◌, ◌*◌, ◌%◌, Bool, false, ◌&&◌, not, nat_eq, nat_lt, List, length, slice_index, Some, None, Result, Ok, Err}
+use Rattle.std.specs.Prelude.{ℕ, ◌+◌, ◌*◌, ◌%◌, Bool, false, ◌&&◌, not, nat_eq, nat_lt, List}
+use Rattle.std.specs.Prelude.{length, slice_index, Some, None, Result, Ok, Err}
 use Rattle.ts_digest.specs.declared.hash.Hash.{Hash}
 use Rattle.ts_der.specs.declared.fault.Fault.{Fault}
 use Rattle.ts_der.specs.Integer.{is_negative}

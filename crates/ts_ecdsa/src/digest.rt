@@ -21,7 +21,7 @@ fn leftmost<C: DomainParameters>(hash: &[u8]) -> Residue<C::Order>
 }
 
 /// The number of a message's hash, modulo the order.
-pub fn hashed<C: DomainParameters>(hash: Hash, message: &Message<'_>) -> Residue<C::Order>
+pub fn hash_number<C: DomainParameters>(hash: Hash, message: &Message<'_>) -> Residue<C::Order>
     ensures { result ≡ hash_number C.curve hash message.now.octets.now % C.curve.order }
 {
     leftmost::<C>(message.hash_by(hash).as_slice())

@@ -9,7 +9,7 @@ ghost use Rattle.ts_ecdsa.specs.Signature.{IsEcdsaSignature};
 ghost use Rattle.ts_ecdsa.specs.Tests.{is_ecdsa_signature_of};
 
 use crate::curve::Curve;
-use crate::digest::hashed;
+use crate::digest::hash_number;
 use crate::key::point_from_octets;
 use crate::number::{is_number_signature, residue_from_integer};
 use crate::value::signature_parts;
@@ -52,7 +52,7 @@ fn is_signature_on<C: DomainParameters>(
         None => false,
         Some(q) => match signature_parts(signature) {
             Err(_fault) => false,
-            Ok((r, s)) => is_integer_signature::<C>(&q, &hashed::<C>(hash, signed), r, s),
+            Ok((r, s)) => is_integer_signature::<C>(&q, &hash_number::<C>(hash, signed), r, s),
         },
     }
 }

@@ -1,7 +1,7 @@
 -- One more bit of a multiple, and the sum by what of the second point is computed once.
 use Rattle.std.proofs.Common.{◌≡◌, ℕ, ◌+◌, ◌*◌, ◌/◌, ◌%◌, refl, sym, ◌∙◌, add-one, arith}
 use Rattle.ts_eddsa.specs.Points.{Point, neutral, double, sum, multiple}
-use Rattle.ts_eddsa.specs.Addend.{addend_of, sum_by}
+use Rattle.ts_eddsa.specs.inside.Addend.{addend_of, sum_by}
 
 pub sum_is : (q r : Point) → sum_by q (addend_of r) ≡ sum q r
 unfolding sum sum_by

@@ -1,5 +1,6 @@
 -- The point that octets encode (RFC 8032 5.1.3).
-use Rattle.std.specs.Prelude.{ℕ, ◌-◌, ◌/◌, ◌%◌, ◌^◌, List, length, nat_eq, nat_lt, if◌then◌else◌, Option, Some, None}
+use Rattle.std.specs.Prelude.{ℕ, ◌-◌, ◌/◌, ◌%◌, ◌^◌, List, length, nat_eq, nat_lt, if◌then◌else◌}
+use Rattle.std.specs.Prelude.{Option, Some, None}
 use Rattle.ts_prime.specs.Primes.{p25519}
 use Rattle.ts_eddsa.specs.Field.{plus, minus, times, power, negative, d, root_of_minus_one}
 use Rattle.ts_eddsa.specs.Octets.{little}

@@ -1,7 +1,7 @@
 pub mod Field
 pub mod Octets
 pub mod Points
-pub mod Addend
 pub mod Decode
 pub mod Signature
 pub mod Tests
+pub mod inside

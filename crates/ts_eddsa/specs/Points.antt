@@ -25,8 +25,8 @@ abbrev pub base : Point
 base = affine base_x base_y
 
 -- both formulas end alike: X = E F, Y = G H, Z = F G, T = E H
-abbrev pub completed : ℕ → ℕ → ℕ → ℕ → Point
-completed e f g h = point_of (times e f) (times g h) (times f g) (times e h)
+abbrev pub completion : ℕ → ℕ → ℕ → ℕ → Point
+completion e f g h = point_of (times e f) (times g h) (times f g) (times e h)
 
 -- the sum: A = (Y1 - X1) (Y2 - X2), B = (Y1 + X1) (Y2 + X2), C = T1 2 d T2, D = Z1 2 Z2
 unfoldable pub sum : Point → Point → Point
@@ -35,7 +35,7 @@ sum q r =
     let b = times (plus q.y q.x) (plus r.y r.x) in
     let c = times q.t (times (plus d d) r.t) in
     let m = times q.z (plus r.z r.z) in
-    completed (minus b a) (minus m c) (plus m c) (plus b a)
+    completion (minus b a) (minus m c) (plus m c) (plus b a)
 
 -- the double: A = X^2, B = Y^2, C = 2 Z^2, H = A + B, E = H - (X + Y)^2, G = A - B, F = C + G
 unfoldable pub double : Point → Point
@@ -46,7 +46,7 @@ double q =
     let h = plus a b in
     let s = plus q.x q.y in
     let g = minus a b in
-    completed (minus h (times s s)) (plus (plus zz zz) g) g h
+    completion (minus h (times s s)) (plus (plus zz zz) g) g h
 
 -- k times a point, for k below 2 ^ bits: the highest bit of k first, at each bit the double, and
 -- the point added where the bit is 1

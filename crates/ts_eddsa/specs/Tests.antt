@@ -1,5 +1,6 @@
 -- The verification of a signature (RFC 8032 5.1.7) as a function that computes a truth value.
-use Rattle.std.specs.Prelude.{ℕ, Bool, false, ◌&&◌, nat_eq, nat_lt, List, length, Option, Some, None}
+use Rattle.std.specs.Prelude.{ℕ, Bool, false, ◌&&◌, nat_eq, nat_lt, List, length, Option, Some}
+use Rattle.std.specs.Prelude.{None}
 use Rattle.ts_prime.specs.Primes.{l25519}
 use Rattle.ts_eddsa.specs.Field.{times}
 use Rattle.ts_eddsa.specs.Points.{Point, base, sum, multiple}

@@ -2,8 +2,8 @@
 
 ghost use Rattle.std.specs.Prelude.{◌≡◌, true, false};
 ghost use Rattle.ts_curve.specs.Four.{number4};
-ghost use Rattle.ts_eddsa.specs.Points.{affine, base, neutral, completed, double, multiple};
-ghost use Rattle.ts_eddsa.specs.Addend.{addend_of, sum_by};
+ghost use Rattle.ts_eddsa.specs.Points.{affine, base, neutral, completion, double, multiple};
+ghost use Rattle.ts_eddsa.specs.inside.Addend.{addend_of, sum_by};
 ghost use Rattle.ts_eddsa.specs.Tests.{are_equal};
 
 use crate::field::Prime25519;
@@ -61,22 +61,22 @@ pub struct Addend {
 }
 
 impl Model for Addend {
-    ghost use Rattle.ts_eddsa.specs.Addend.{Prepared, prepared};
+    ghost use Rattle.ts_eddsa.specs.inside.Addend.{PreparedPoint, prepared_point};
 
-    ghost Value = { Prepared };
+    ghost Value = { PreparedPoint };
 
-    ghost view = { λ q. prepared q.low q.high q.scaled q.twice };
+    ghost view = { λ q. prepared_point q.low q.high q.scaled q.twice };
 }
 
 /// The last products of both formulas: E F, G H, F G and E H.
 #[inline(always)]
-fn completed(
+fn completion(
     e: &Residue<Prime25519>,
     f: &Residue<Prime25519>,
     g: &Residue<Prime25519>,
     h: &Residue<Prime25519>,
 ) -> EdwardsPoint
-    ensures { result ≡ completed e.now f.now g.now h.now }
+    ensures { result ≡ completion e.now f.now g.now h.now }
 {
     EdwardsPoint {
         x: e.product(f),
@@ -132,7 +132,7 @@ impl EdwardsPoint {
         let square = s.product(&s);
         let e = h.difference(&square);
         let f = c.sum(&g);
-        completed(&e, &f, &g, &h)
+        completion(&e, &f, &g, &h)
     }
 
     /// What of the point is computed once where it is added.
@@ -163,7 +163,7 @@ impl EdwardsPoint {
         let f = m.difference(&c);
         let g = m.sum(&c);
         let h = b.sum(&a);
-        completed(&e, &f, &g, &h)
+        completion(&e, &f, &g, &h)
     }
 
     /// The double, and the sum of it and a point where `is_odd`.

@@ -3,10 +3,11 @@
 ghost use Rattle.std.specs.Prelude.{IfOk};
 ghost use Rattle.ts_explain.specs.Line.{IsLine};
 
-use crate::reason::reason_of;
 use std::alloc::{AllocError, Global};
 use ts_cert::Cert;
-use ts_question::{Question, Reason, Reply, Target};
+use ts_der::Oid;
+use ts_question::{Question, Reply, Target};
+use ts_reason::Reason;
 use ts_report::reason_line;
 use ts_show::Line;
 
@@ -36,11 +37,10 @@ fn invalid_line(
     alloc: Global,
     question: &Question,
     position: u8,
-    reason: &Reason,
+    reason: &Reason<Oid>,
 ) -> Result<Line, AllocError> {
     let chain = certificates_of(alloc, strings_of(question))?;
-    let reason = reason_of(reason);
-    reason_line(alloc, &chain, position, &reason)
+    reason_line(alloc, &chain, position, &reason.as_ref())
 }
 
 /// The line on a chain that is valid.
@@ -127,7 +127,7 @@ fn line_of(alloc: Global, question: &Question, reply: &Reply) -> Result<Line, Al
 /// # Errors
 ///
 /// Out of memory.
-pub fn explained(alloc: Global, question: &Question, reply: &Reply) -> Result<Vec<u8>, AllocError>
+pub fn explanation(alloc: Global, question: &Question, reply: &Reply) -> Result<Vec<u8>, AllocError>
     ensures { IfOk result (λ text. IsLine text.items) }
 {
     let line = line_of(alloc, question, reply)?;

@@ -5,10 +5,8 @@
 //! let text = explained(alloc, &question, answer.reply())?;
 //! ```
 //!
-//! - [`reason_of`]: the reason of an answer as one of path validation: of the same number, code and
-//!   object identifier (`SaysReason` of `ts_answer`).
-//! - [`explained`]: `IsLine` (`specs/Line`): one line of printable characters of ASCII, ended by a
-//!   line feed. Out of memory is the only error.
+//! - [`explanation`]: `IsLine` (`specs/Line`): one line of printable characters of ASCII, ended by
+//!   a line feed. Out of memory is the only error.
 //!
 //! # Not promised
 //!
@@ -16,7 +14,5 @@
 #![tactic(auto)]
 
 mod explaining;
-mod reason;
 
-pub use explaining::explained;
-pub use reason::reason_of;
+pub use explaining::explanation;

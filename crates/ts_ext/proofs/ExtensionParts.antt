@@ -22,7 +22,10 @@ use Rattle.ts_shape.proofs.ItemParts.{tag-part, tag-reads, some-judged, alone-fo
 use Rattle.ts_shape.proofs.Parts.{Part, took, element-took}
 use Rattle.ts_shape.proofs.Endings.{end-ok, end-again}
 use Rattle.ts_ext.specs.AuthorityKey.{AreOctetsOf}
-use Rattle.ts_ext.specs.Extension.{Extension, Located, IsExtension, AreExtensions, AreExplicit, extension_fields, extension, extensions, explicit_extensions, unlocated, located_of, located_in, extension_of, extensions_of, explicit_extensions_of, all_located_of, explicit_all_located_of}
+use Rattle.ts_ext.specs.Extension.{Extension, Located, IsExtension, AreExtensions, AreExplicit}
+use Rattle.ts_ext.specs.Extension.{extension_fields, extension, extensions, explicit_extensions}
+use Rattle.ts_ext.specs.Extension.{unlocated, located_of, located_in, extension_of, extensions_of}
+use Rattle.ts_ext.specs.Extension.{explicit_extensions_of, all_located_of, explicit_all_located_of}
 use Rattle.ts_ext.specs.Inner.{inner_fault}
 use Rattle.ts_ext.specs.Table.{flag, list_rules}
 use Rattle.ts_ext.proofs.Flags.{flag-encoded, flag-again, flag-judged}
@@ -73,7 +76,10 @@ located-judged e =
     under (flag_at 0x01 (behind (inside e))) _ _ _
     (flag-judged 0x01 (primitive 0x04 no_rules then nothing) (behind (inside e)) _ _ (λ critical after.
     under (element_at 0x04 after) _ _ _
-    (element-judged 0x04 plain no_rules after (λ v. Ok v) (λ x v. der (end_at x.1 >>= λ done. Ok (record { at = e.at; extnID = id; critical = critical; value = v }))) (judge nothing (behind after)) (λ v. Unit {0}) (λ s. Unit {0})
+    (element-judged 0x04 plain no_rules after (λ v. Ok v)
+    (λ x v. der (end_at x.1 >>= λ done. Ok
+    (record { at = e.at; extnID = id; critical = critical; value = v })))
+    (judge nothing (behind after)) (λ v. Unit {0}) (λ s. Unit {0})
     (refl, tt) (λ v h t q. ends (behind after) (record { at = e.at; extnID = id; critical = critical; value = v }) (λ s. Unit {0}) (λ r. tt)))))))
 
 extension-judged : (e : Tlv) → Judged (der (extension_of e)) (inner_fault extension_fields no_rules e) (λ x. Unit {0})

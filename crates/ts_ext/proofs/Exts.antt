@@ -14,7 +14,13 @@ use Rattle.ts_shape.proofs.Judging.{Judged, no_less, Whatever, Reads}
 use Rattle.ts_shape.proofs.ItemParts.{tag-part, tag-reads, alone-found, alone-again, alone-judged}
 use Rattle.ts_ext.specs.declared.known.Known.{Known}
 use Rattle.ts_ext.specs.declared.known.Known.TheVariants as extension
-use Rattle.ts_ext.specs.Ext.{ExtValue, subjectKeyIdentifier, keyUsage, subjectAltName, issuerAltName, basicConstraints, cRLNumber, reasonCode, invalidityDate, deltaCRLIndicator, issuingDistributionPoint, certificateIssuer, nameConstraints, cRLDistributionPoints, certificatePolicies, policyMappings, authorityKeyIdentifier, policyConstraints, extKeyUsage, freshestCRL, inhibitAnyPolicy, unknown, As, IsContent, IsValue, IsExt, read_as, content_of, value_of, ext_of, layout_of, value_row, ext_fault}
+use Rattle.ts_ext.specs.Ext.{ExtValue, subjectKeyIdentifier, keyUsage, subjectAltName}
+use Rattle.ts_ext.specs.Ext.{issuerAltName, basicConstraints, cRLNumber, reasonCode, invalidityDate}
+use Rattle.ts_ext.specs.Ext.{deltaCRLIndicator, issuingDistributionPoint, certificateIssuer}
+use Rattle.ts_ext.specs.Ext.{nameConstraints, cRLDistributionPoints, certificatePolicies}
+use Rattle.ts_ext.specs.Ext.{policyMappings, authorityKeyIdentifier, policyConstraints, extKeyUsage}
+use Rattle.ts_ext.specs.Ext.{freshestCRL, inhibitAnyPolicy, unknown, As, IsContent, IsValue, IsExt}
+use Rattle.ts_ext.specs.Ext.{read_as, content_of, value_of, ext_of, layout_of, value_row, ext_fault}
 use Rattle.ts_ext.specs.Inner.{inner_fault}
 use Rattle.ts_ext.proofs.Formats as formats
 use Rattle.ts_ext.proofs.Formats.{Format}

@@ -1,5 +1,7 @@
 -- Extensions of a certificate that are recognised by their first octets.
-use Rattle.std.proofs.Common.{◌≡◌, ℕ, zero, suc, ◌+◌, ◌%◌, ◌<◌, ◌≤◌, Bool, true, false, List, [], ◌∷◌, ◌++◌, ◌&&◌, length, take, drop, get_or, Option, Some, None, refl, sym, ap, ap₂, subst, ◌∙◌, leb, arith}
+use Rattle.std.proofs.Common.{◌≡◌, ℕ, zero, suc, ◌+◌, ◌%◌, ◌<◌, ◌≤◌, Bool, true, false, List, []}
+use Rattle.std.proofs.Common.{◌∷◌, ◌++◌, ◌&&◌, length, take, drop, get_or, Option, Some, None, refl}
+use Rattle.std.proofs.Common.{sym, ap, ap₂, subst, ◌∙◌, leb, arith}
 use Rattle.std.proofs.lemmas.Bool.{leb-true, and_parts, false≢true}
 use Rattle.std.proofs.lemmas.List.{length-append, length-take-le, length-drop}
 use Rattle.std.proofs.Math.Seq.{drop-cons}
@@ -35,7 +37,9 @@ front (suc n) (l ∷ low) (g ∷ high) (x ∷ octets) h same few =
     ap₂ (λ (o : ℕ) (more : List ℕ). o ∷ more) here (front n low high octets parts.1 (ap (λ (o : List ℕ). drop 1 o) same) (omega arith))
 
 -- an extension under 2.5.29, with lengths of one octet, and a value that breaks no rule
-sound-item : (known : Known) (arc n m : ℕ) (flag value : List ℕ) (critical : Bool) → arc < 128 → extension_of Certificate arc ≡ Some known → IfTrue 0x01 flag critical → length value ≡ m → m < 128 → n ≡ 7 + (length flag + m) → n < 128
+sound-item : (known : Known) (arc n m : ℕ) (flag value : List ℕ) (critical : Bool) → arc < 128
+    → extension_of Certificate arc ≡ Some known → IfTrue 0x01 flag critical → length value ≡ m
+    → m < 128 → n ≡ 7 + (length flag + m) → n < 128
     → IsValidValue (Some known) value → IsValidUnder arc (0x30 ∷ n ∷ 0x06 ∷ 3 ∷ 0x55 ∷ 0x1D ∷ arc ∷ (flag ++ (0x04 ∷ m ∷ value)))
 unfolding known_at
 sound-item known arc n m flag value critical small is_known is count few size short sound =
@@ -66,7 +70,10 @@ authority-item octets h enough last =
     let value : List ℕ = 0x30 ∷ 3 ∷ 0x01 ∷ 1 ∷ 0xFF ∷ [] in
     let content : List ℕ = 0x01 ∷ 1 ∷ 0xFF ∷ [] in
     let encoded : value ≡ encode 0x30 content = rw (length_octets-short 3 (omega arith)) refl in
-    let sound = sound-value BasicConstraints value content (basicConstraints (record { ca = true; path_len_constraint = None })) (record { octet = omega arith; low = λ e. omega arith; short = omega arith }) encoded (_, refl, of-authority content refl refl refl refl) refl in
+    let sound = sound-value BasicConstraints value content
+    (basicConstraints (record { ca = true; path_len_constraint = None }))
+    (record { octet = omega arith; low = λ e. omega arith; short = omega arith }) encoded
+    (_, refl, of-authority content refl refl refl refl) refl in
     taken (authority_front ++ 0xFF ∷ []) (drop 17 octets) octets 17 0x13 (begins ∙ ap (λ (o : List ℕ). authority_front ++ o) behind) refl
     (sound-item BasicConstraints 0x13 0x0F 5 (0x01 ∷ 1 ∷ 0xFF ∷ []) value true (omega arith) refl true-encoded refl (omega arith) refl (omega arith) sound)
 
@@ -92,11 +99,16 @@ usage-item octets h enough bits =
 abbrev subject_key_front : List ℕ → List ℕ
 subject_key_front key = 0x30 ∷ 0x1D ∷ 0x06 ∷ 3 ∷ 0x55 ∷ 0x1D ∷ 0x0E ∷ 0x04 ∷ 0x16 ∷ 0x04 ∷ 0x14 ∷ key
 
-pub subject-key-item : (octets : List ℕ) → lie_between (subject_key_front (0 ∷ 0 ∷ 0 ∷ 0 ∷ 0 ∷ [])) (subject_key_front (255 ∷ 255 ∷ 255 ∷ 255 ∷ 255 ∷ [])) octets ≡ true → 31 ≤ length octets → IsValidUnder 0x0E (take 31 octets)
+pub subject-key-item : (octets : List ℕ)
+    → lie_between (subject_key_front (0 ∷ 0 ∷ 0 ∷ 0 ∷ 0 ∷ []))
+    (subject_key_front (255 ∷ 255 ∷ 255 ∷ 255 ∷ 255 ∷ [])) octets ≡ true → 31 ≤ length octets
+    → IsValidUnder 0x0E (take 31 octets)
 unfolding certificate_extension
 subject-key-item octets h enough =
     let key : List ℕ = take 20 (drop 11 octets) in
-    let begins : octets ≡ subject_key_front (drop 11 octets) = front 11 (subject_key_front (0 ∷ 0 ∷ 0 ∷ 0 ∷ 0 ∷ [])) (subject_key_front (255 ∷ 255 ∷ 255 ∷ 255 ∷ 255 ∷ [])) octets h refl (omega arith) in
+    let begins : octets ≡ subject_key_front (drop 11 octets) =
+    front 11 (subject_key_front (0 ∷ 0 ∷ 0 ∷ 0 ∷ 0 ∷ []))
+    (subject_key_front (255 ∷ 255 ∷ 255 ∷ 255 ∷ 255 ∷ [])) octets h refl (omega arith) in
     let count : length key ≡ 20 = length-take-le 20 (drop 11 octets) (omega (arith, length-drop 11 octets)) in
     let fits : Fits 0x04 key = record { octet = omega arith; low = λ e. omega arith; short = omega (arith, count) } in
     let encoded : 0x04 ∷ 0x14 ∷ key ≡ encode 0x04 key = ap (λ (o : List ℕ). 0x04 ∷ (o ++ key)) (sym (ap length_octets count ∙ length_octets-short 20 (omega arith))) in
@@ -108,7 +120,10 @@ subject-key-item octets h enough =
 abbrev authority_key_front : List ℕ → List ℕ
 authority_key_front key = 0x30 ∷ 0x1F ∷ 0x06 ∷ 3 ∷ 0x55 ∷ 0x1D ∷ 0x23 ∷ 0x04 ∷ 0x18 ∷ 0x30 ∷ 0x16 ∷ 0x80 ∷ 0x14 ∷ key
 
-pub authority-key-item : (octets : List ℕ) → lie_between (authority_key_front (0 ∷ 0 ∷ 0 ∷ [])) (authority_key_front (255 ∷ 255 ∷ 255 ∷ [])) octets ≡ true → 33 ≤ length octets → IsValidUnder 0x23 (take 33 octets)
+pub authority-key-item : (octets : List ℕ)
+    → lie_between (authority_key_front (0 ∷ 0 ∷ 0 ∷ []))
+    (authority_key_front (255 ∷ 255 ∷ 255 ∷ [])) octets ≡ true → 33 ≤ length octets
+    → IsValidUnder 0x23 (take 33 octets)
 unfolding certificate_extension
 authority-key-item octets h enough =
     let key : List ℕ = take 20 (drop 13 octets) in

@@ -27,7 +27,9 @@ pub some-of : {A : Type 0} (P : A → Type 0) (o : Option A) → IfSome o P → 
 some-of P (Some x) p e = (x, p)
 some-of P None p e = absurd cc
 
-pub of-authority : (content : List ℕ) → length content ≡ 3 → get_or content 0 0 ≡ 0x01 → get_or content 1 0 ≡ 1 → get_or content 2 0 ≡ 0xFF → IsBasicConstraints content (record { ca = true; path_len_constraint = None })
+pub of-authority : (content : List ℕ) → length content ≡ 3 → get_or content 0 0 ≡ 0x01
+    → get_or content 1 0 ≡ 1 → get_or content 2 0 ≡ 0xFF
+    → IsBasicConstraints content (record { ca = true; path_len_constraint = None })
 of-authority (a ∷ b ∷ c ∷ []) three x y z =
     record {
       authority = a ∷ b ∷ c ∷ [];
@@ -42,7 +44,9 @@ of-authority (a ∷ b ∷ []) three x y z = absurd cc
 of-authority (a ∷ b ∷ c ∷ d ∷ more) three x y z = absurd cc
 
 -- and with a bound in one octet
-pub bounded-authority : (content : List ℕ) → length (drop 3 content) ≡ 3 → get_or content 0 0 ≡ 0x01 → get_or content 1 0 ≡ 1 → get_or content 2 0 ≡ 0xFF → get_or (drop 3 content) 0 0 ≡ 0x02 → get_or (drop 3 content) 1 0 ≡ 1 → get_or (drop 3 content) 2 0 < 128
+pub bounded-authority : (content : List ℕ) → length (drop 3 content) ≡ 3 → get_or content 0 0 ≡ 0x01
+    → get_or content 1 0 ≡ 1 → get_or content 2 0 ≡ 0xFF → get_or (drop 3 content) 0 0 ≡ 0x02
+    → get_or (drop 3 content) 1 0 ≡ 1 → get_or (drop 3 content) 2 0 < 128
     → IsBasicConstraints content (record { ca = true; path_len_constraint = Some (get_or (drop 3 content) 2 0) })
 unfolding number
 bounded-authority (a ∷ b ∷ c ∷ d ∷ e ∷ f ∷ []) six x y z t one few =
@@ -78,7 +82,15 @@ crl-sign-last (u ∷ []) two x y = absurd cc
 crl-sign-last (u ∷ o ∷ p ∷ more) two x y = absurd cc
 
 -- the identifier of a key, and nothing else
-pub key-alone : (content identifier : List ℕ) → Fits 0x80 identifier → content ≡ encode 0x80 identifier → IsAuthorityKey content (record { keyIdentifier = Some identifier; authorityCertIssuer = None; authorityCertSerialNumber = None })
+pub key-alone : (content identifier : List ℕ) → Fits 0x80 identifier
+    → content ≡ encode 0x80 identifier
+    → IsAuthorityKey content
+    (record {
+      keyIdentifier = Some identifier;
+      authorityCertIssuer =
+          None;
+      authorityCertSerialNumber = None;
+    })
 key-alone content identifier fits encoded =
     record {
       key = content;
@@ -90,7 +102,9 @@ key-alone content identifier fits encoded =
       fields = sym (append-nil content);
     }
 
-pub sound-value : (known : Known) (octets content : List ℕ) (x : ExtValue) → Fits (layout_of known).tag content → octets ≡ encode (layout_of known).tag content → IsContent known content x → broken_rule x ≡ None
+pub sound-value : (known : Known) (octets content : List ℕ) (x : ExtValue)
+    → Fits (layout_of known).tag content → octets ≡ encode (layout_of known).tag content
+    → IsContent known content x → broken_rule x ≡ None
     → IsValidValue (Some known) octets
 sound-value known octets content x fits encoded is none = (x, record { content = content; fits = fits; encoded = encoded; value = is }, none)
 
@@ -100,7 +114,9 @@ true-flag [] three x y z = absurd (omega arith)
 true-flag (a ∷ []) three x y z = absurd (omega arith)
 true-flag (a ∷ b ∷ []) three x y z = absurd (omega arith)
 
-pub short-extension : (content flag behind value : List ℕ) (critical : Bool) → 5 ≤ length content → get_or content 0 0 ≡ 0x06 → get_or content 1 0 ≡ 3 → get_or content 2 0 ≡ 0x55 → get_or content 3 0 ≡ 0x1D → get_or content 4 0 < 128
+pub short-extension : (content flag behind value : List ℕ) (critical : Bool) → 5 ≤ length content
+    → get_or content 0 0 ≡ 0x06 → get_or content 1 0 ≡ 3 → get_or content 2 0 ≡ 0x55
+    → get_or content 3 0 ≡ 0x1D → get_or content 4 0 < 128
     → IfTrue 0x01 flag critical → drop 5 content ≡ flag ++ behind → Fits 0x04 value → behind ≡ encode 0x04 value
     → IsExtension content (record { extnID = 0x55 ∷ 0x1D ∷ get_or content 4 0 ∷ []; critical = critical; extnValue = value })
 short-extension (t ∷ l ∷ j ∷ k ∷ a ∷ fields) flag behind value critical five tag size joint ce small is split fits encoded =
@@ -125,7 +141,9 @@ short-extension (t ∷ l ∷ j ∷ []) flag behind value critical five tag size 
 short-extension (t ∷ l ∷ j ∷ k ∷ []) flag behind value critical five tag size joint ce small is split fits encoded = absurd (omega arith)
 
 -- an element that encodes an extension with a sound value is one
-pub sound-extension : (holder : Holder) (e : Tlv) (arc : ℕ) (critical : Bool) (value : List ℕ) → IsExtension e.content (record { extnID = 0x55 ∷ 0x1D ∷ arc ∷ []; critical = critical; extnValue = value })
+pub sound-extension : (holder : Holder) (e : Tlv) (arc : ℕ) (critical : Bool) (value : List ℕ)
+    → IsExtension e.content
+    (record { extnID = 0x55 ∷ 0x1D ∷ arc ∷ []; critical = critical; extnValue = value })
     → IsValidValue (extension_of holder arc) value → (x : Located) × (located_of e ≡ Ok x) × (x.extnID ≡ 0x55 ∷ 0x1D ∷ arc ∷ []) × (value_fault holder x ≡ None)
 unfolding known_at
 sound-extension holder e arc critical value is sound =

@@ -10,7 +10,7 @@ use Rattle.ts_der.specs.Rules.{first_broken, value_unless}
 use Rattle.ts_der.specs.Element.{Place, Tlv, encode}
 use Rattle.ts_der.specs.Boolean.{boolean_content, boolean_rules, boolean_value}
 use Rattle.ts_der.specs.Default.{flag_of, flag_at, IsFlag}
-use Rattle.ts_der.specs.Reading.{fault_at, located, begins_with, value_at, element_at, optional_at, element_of, behind}
+use Rattle.ts_der.specs.Reading.{fault_at, at_element, begins_with, value_at, element_at, optional_at, element_of, behind}
 use Rattle.ts_der.proofs.OctetLists.{AreOctets-back}
 use Rattle.ts_der.proofs.Flags.{flag-found, flag-absent, flag-present}
 use Rattle.ts_shape.specs.declared.fault.CertRule.TheVariants.{Der}
@@ -81,7 +81,7 @@ flag-judged {B} tag others here f Q k = by_start (begins_with tag here.rest)
     flat (Err d) = refl
 
     by_rules : (at : ℕ) (o : Option DerFault) (b : Bool)
-        → Judged (der (located at (value_unless o b) >>= λ v. cond {A = Result Bool Fault} v (Ok true) (Err (fault_at at DefaultEncoded))))
+        → Judged (der (at_element at (value_unless o b) >>= λ v. cond {A = Result Bool Fault} v (Ok true) (Err (fault_at at DefaultEncoded))))
         (option_map (breaks at) (option_map Der o or_else cond (not b) (Some (Der DefaultEncoded)) None)) (λ (v : Bool). Unit {0})
     by_rules at None true = (refl, tt)
     by_rules at None false = refl

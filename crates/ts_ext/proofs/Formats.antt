@@ -8,7 +8,7 @@ use Rattle.ts_der.specs.Octets.{AreOctets}
 use Rattle.ts_der.specs.Answer.{Answers, refusal}
 use Rattle.ts_der.specs.Rules.{Rule, first_broken, value_unless}
 use Rattle.ts_der.specs.Element.{Tlv}
-use Rattle.ts_der.specs.Reading.{located, value_at}
+use Rattle.ts_der.specs.Reading.{at_element, value_at}
 use Rattle.ts_der.proofs.Laws.{ok_is}
 use Rattle.ts_shape.specs.declared.fault.CertRule.TheVariants.{Der}
 use Rattle.ts_shape.specs.Fault.{about, der, breaks}
@@ -70,7 +70,7 @@ by_der_rules {A} rules value Is found again =
       judged = λ e. weaker _ _ _ _ (λ x p. tt) (value-judged rules value e);
     }
   where
-    kept : (e : Tlv) (o : Option DerFault) (x : A) → first_broken rules e.content ≡ o → AreOctets e.content → located e.at (value_unless o (value e.content)) ≡ Ok x → Is e.content x
+    kept : (e : Tlv) (o : Option DerFault) (x : A) → first_broken rules e.content ≡ o → AreOctets e.content → at_element e.at (value_unless o (value e.content)) ≡ Ok x → Is e.content x
     kept e None x none fits read = subst (Is e.content) (ok_is {E = Fault} (value e.content) x read) (found e.content fits none)
     kept e (Some k) x some fits read = absurd cc
 
@@ -78,7 +78,7 @@ by_der_rules {A} rules value Is found again =
 pub by_name : {A : Type 0} (kind : DerFault) (named : List ℕ → Option A) (Is : List ℕ → A → Type 0)
     → ((c : List ℕ) (x : A) → named c ≡ Some x → Is c x)
     → ((c : List ℕ) (x : A) → Is c x → named c ≡ Some x)
-    → Format (λ e. located e.at (ok_or (named e.content) kind)) Is plain (one_rule (Der kind) (λ c. not (is_some (named c))))
+    → Format (λ e. at_element e.at (ok_or (named e.content) kind)) Is plain (one_rule (Der kind) (λ c. not (is_some (named c))))
 by_name {A} kind named Is found again =
     record {
       found = λ e x fits read. kept e (named e.content) x refl read;
@@ -86,10 +86,10 @@ by_name {A} kind named Is found again =
       judged = λ e. judged e.at (named e.content);
     }
   where
-    kept : (e : Tlv) (o : Option A) (x : A) → named e.content ≡ o → located e.at (ok_or o kind) ≡ Ok x → Is e.content x
+    kept : (e : Tlv) (o : Option A) (x : A) → named e.content ≡ o → at_element e.at (ok_or o kind) ≡ Ok x → Is e.content x
     kept e (Some y) x some read = found e.content x (some ∙ ap (λ (z : A). Some z) (ok_is {E = Fault} y x read))
     kept e None x none read = absurd cc
 
-    judged : (at : ℕ) (o : Option A) → Judged (der (located at (ok_or o kind))) (option_map (breaks at) (one_rule (Der kind) (λ c. not (is_some o)) [])) (λ x. Unit {0})
+    judged : (at : ℕ) (o : Option A) → Judged (der (at_element at (ok_or o kind))) (option_map (breaks at) (one_rule (Der kind) (λ c. not (is_some o)) [])) (λ x. Unit {0})
     judged at (Some y) = (refl, tt)
     judged at None = refl

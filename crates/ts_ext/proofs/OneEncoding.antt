@@ -18,13 +18,23 @@ use Rattle.ts_name.specs.Subtree.{is_zero, IsDistance, IsSubtree}
 use Rattle.ts_time.proofs.TextLemmas.{IsGeneral-one_text}
 use Rattle.ts_ext.specs.declared.known.Known.{Known}
 use Rattle.ts_ext.specs.declared.known.Known.TheVariants as extension
-use Rattle.ts_ext.specs.Encoding.{IsKeyUsage, IsCrlNumber, IsReasonCode, IsInvalidityDate, IsBaseCrlNumber, AreCertificatePolicies, ArePolicyMappings, AreKeyPurposes, IsSkipCerts, IfTrue, IsSmall, IsBasicConstraints, IsPolicyConstraints, IsPolicyQualifier, IsPolicyInformation, IsPolicyMapping}
+use Rattle.ts_ext.specs.Encoding.{IsKeyUsage, IsCrlNumber, IsReasonCode, IsInvalidityDate}
+use Rattle.ts_ext.specs.Encoding.{IsBaseCrlNumber, AreCertificatePolicies, ArePolicyMappings}
+use Rattle.ts_ext.specs.Encoding.{AreKeyPurposes, IsSkipCerts, IfTrue, IsSmall, IsBasicConstraints}
+use Rattle.ts_ext.specs.Encoding.{IsPolicyConstraints, IsPolicyQualifier, IsPolicyInformation}
+use Rattle.ts_ext.specs.Encoding.{IsPolicyMapping}
 use Rattle.ts_ext.specs.NamedBits.{IsNamedBits}
 use Rattle.ts_ext.specs.GeneralNames.{AreGeneralNames}
 use Rattle.ts_ext.specs.Points.{PointName, fullName, nameRelativeToCRLIssuer, IsPointForm, IsPointName, IsPoint, ArePoints, IsIssuingPoint}
 use Rattle.ts_ext.specs.AuthorityKey.{AreOctetsOf, IsAuthorityKey}
 use Rattle.ts_ext.specs.NameConstraints.{AreConstraints}
-use Rattle.ts_ext.specs.Ext.{ExtValue, subjectKeyIdentifier, keyUsage, subjectAltName, issuerAltName, basicConstraints, cRLNumber, reasonCode, invalidityDate, deltaCRLIndicator, issuingDistributionPoint, certificateIssuer, nameConstraints, cRLDistributionPoints, certificatePolicies, policyMappings, authorityKeyIdentifier, policyConstraints, extKeyUsage, freshestCRL, inhibitAnyPolicy, unknown, As, IsContent, IsExt, layout_of}
+use Rattle.ts_ext.specs.Ext.{ExtValue, subjectKeyIdentifier, keyUsage, subjectAltName}
+use Rattle.ts_ext.specs.Ext.{issuerAltName, basicConstraints, cRLNumber, reasonCode, invalidityDate}
+use Rattle.ts_ext.specs.Ext.{deltaCRLIndicator, issuingDistributionPoint, certificateIssuer}
+use Rattle.ts_ext.specs.Ext.{nameConstraints, cRLDistributionPoints, certificatePolicies}
+use Rattle.ts_ext.specs.Ext.{policyMappings, authorityKeyIdentifier, policyConstraints, extKeyUsage}
+use Rattle.ts_ext.specs.Ext.{freshestCRL, inhibitAnyPolicy, unknown, As, IsContent, IsExt}
+use Rattle.ts_ext.specs.Ext.{layout_of}
 use Rattle.ts_ext.proofs.Exts.{ext-again}
 
 -- one content for each value
@@ -111,7 +121,9 @@ subtree-one c d s oc od a b =
     let rest-a = back c a.named (a.least ++ a.most) oc a.fields in
     let rest-b = back d b.named (b.least ++ b.most) od b.fields in
     let base = choice-one IsForm general-same a.named b.named s.base (front c a.named (a.least ++ a.most) oc a.fields) (front d b.named (b.least ++ b.most) od b.fields) a.base b.base in
-    let least = minimum-is s.minimum a.minimum.minimum_octets b.minimum.minimum_octets a.least b.least (AreOctets-front a.least a.most rest-a) (AreOctets-front b.least b.most rest-b) a.minimum.value b.minimum.value a.minimum.encoded b.minimum.encoded in
+    let least = minimum-is s.minimum a.minimum.minimum_octets b.minimum.minimum_octets a.least
+    b.least (AreOctets-front a.least a.most rest-a) (AreOctets-front b.least b.most rest-b)
+    a.minimum.value b.minimum.value a.minimum.encoded b.minimum.encoded in
     let most = if-any-one 0x81 _ (λ v w x ov ow p q. p.0 ∙ sym q.0) a.most b.most s.maximum (AreOctets-back a.least a.most rest-a) (AreOctets-back b.least b.most rest-b) a.maximum b.maximum in
     two c d a.named (a.least ++ a.most) b.named (b.least ++ b.most) a.fields b.fields base (both a.least b.least a.most b.most least most)
 
@@ -119,7 +131,9 @@ constraints-one : One AreConstraints
 constraints-one c d n oc od a b =
     let one = some-one (Within 0x30 IsSubtree) (within-one 0x30 IsSubtree subtree-one) in
     two c d a.permitted a.excluded b.permitted b.excluded a.fields b.fields
-    (if-any-one 0xA0 _ one a.permitted b.permitted n.permittedSubtrees (front c a.permitted a.excluded oc a.fields) (front d b.permitted b.excluded od b.fields) a.permittedSubtrees b.permittedSubtrees)
+    (if-any-one 0xA0 _ one a.permitted b.permitted n.permittedSubtrees
+    (front c a.permitted a.excluded oc a.fields) (front d b.permitted b.excluded od b.fields)
+    a.permittedSubtrees b.permittedSubtrees)
     (if-any-one 0xA1 _ one a.excluded b.excluded n.excludedSubtrees (back c a.permitted a.excluded oc a.fields) (back d b.permitted b.excluded od b.fields) a.excludedSubtrees b.excludedSubtrees)
 
 -- ---- numbers and bits
@@ -138,13 +152,19 @@ basic-one : One IsBasicConstraints
 basic-one c d x oc od a b =
     two c d a.authority a.length b.authority b.length a.fields b.fields
     (if-true-one 0x01 a.authority b.authority x.ca (front c a.authority a.length oc a.fields) (front d b.authority b.length od b.fields) a.cA b.cA)
-    (if-any-one 0x02 IsSmall small-one a.length b.length x.path_len_constraint (back c a.authority a.length oc a.fields) (back d b.authority b.length od b.fields) a.pathLenConstraint b.pathLenConstraint)
+    (if-any-one 0x02 IsSmall small-one a.length b.length x.path_len_constraint
+    (back c a.authority a.length oc a.fields) (back d b.authority b.length od b.fields)
+    a.pathLenConstraint b.pathLenConstraint)
 
 policy-constraints-one : One IsPolicyConstraints
 policy-constraints-one c d x oc od a b =
     two c d a.explicit a.mapping b.explicit b.mapping a.fields b.fields
-    (if-any-one 0x80 IsSmall small-one a.explicit b.explicit x.require_explicit_policy (front c a.explicit a.mapping oc a.fields) (front d b.explicit b.mapping od b.fields) a.requireExplicitPolicy b.requireExplicitPolicy)
-    (if-any-one 0x81 IsSmall small-one a.mapping b.mapping x.inhibit_policy_mapping (back c a.explicit a.mapping oc a.fields) (back d b.explicit b.mapping od b.fields) a.inhibitPolicyMapping b.inhibitPolicyMapping)
+    (if-any-one 0x80 IsSmall small-one a.explicit b.explicit x.require_explicit_policy
+    (front c a.explicit a.mapping oc a.fields) (front d b.explicit b.mapping od b.fields)
+    a.requireExplicitPolicy b.requireExplicitPolicy)
+    (if-any-one 0x81 IsSmall small-one a.mapping b.mapping x.inhibit_policy_mapping
+    (back c a.explicit a.mapping oc a.fields) (back d b.explicit b.mapping od b.fields)
+    a.inhibitPolicyMapping b.inhibitPolicyMapping)
 
 -- ---- policies
 
@@ -160,7 +180,10 @@ information-one : One IsPolicyInformation
 information-one c d p oc od a b =
     two c d a.id a.qualifiers b.id b.qualifiers a.fields b.fields
     (oid-one a.id b.id p.policyIdentifier (front c a.id a.qualifiers oc a.fields) (front d b.id b.qualifiers od b.fields) a.policyIdentifier b.policyIdentifier)
-    (if-any-one 0x30 _ (some-one (Within 0x30 IsPolicyQualifier) (within-one 0x30 IsPolicyQualifier qualifier-one)) a.qualifiers b.qualifiers p.policyQualifiers (back c a.id a.qualifiers oc a.fields) (back d b.id b.qualifiers od b.fields) a.policyQualifiers b.policyQualifiers)
+    (if-any-one 0x30 _ (some-one (Within 0x30 IsPolicyQualifier)
+    (within-one 0x30 IsPolicyQualifier qualifier-one)) a.qualifiers b.qualifiers p.policyQualifiers
+    (back c a.id a.qualifiers oc a.fields) (back d b.id b.qualifiers od b.fields) a.policyQualifiers
+    b.policyQualifiers)
 
 mapping-one : One IsPolicyMapping
 mapping-one c d m oc od a b =
@@ -181,9 +204,14 @@ point-one : One IsPoint
 point-one c d p oc od a b =
     let rest-a = back c a.named (a.flags ++ a.issued_by) oc a.fields in
     let rest-b = back d b.named (b.flags ++ b.issued_by) od b.fields in
-    let named = if-any-one 0xA0 IsPointName point-name-one a.named b.named p.distributionPoint (front c a.named (a.flags ++ a.issued_by) oc a.fields) (front d b.named (b.flags ++ b.issued_by) od b.fields) a.distributionPoint b.distributionPoint in
+    let named = if-any-one 0xA0 IsPointName point-name-one a.named b.named p.distributionPoint
+    (front c a.named (a.flags ++ a.issued_by) oc a.fields)
+    (front d b.named (b.flags ++ b.issued_by) od b.fields) a.distributionPoint
+    b.distributionPoint in
     let flags = if-any-one 0x81 IsNamedBits bits-one a.flags b.flags p.reasons (AreOctets-front a.flags a.issued_by rest-a) (AreOctets-front b.flags b.issued_by rest-b) a.reasons b.reasons in
-    let issuer = if-any-one 0xA2 AreGeneralNames names-one a.issued_by b.issued_by p.cRLIssuer (AreOctets-back a.flags a.issued_by rest-a) (AreOctets-back b.flags b.issued_by rest-b) a.cRLIssuer b.cRLIssuer in
+    let issuer = if-any-one 0xA2 AreGeneralNames names-one a.issued_by b.issued_by p.cRLIssuer
+    (AreOctets-back a.flags a.issued_by rest-a) (AreOctets-back b.flags b.issued_by rest-b)
+    a.cRLIssuer b.cRLIssuer in
     two c d a.named (a.flags ++ a.issued_by) b.named (b.flags ++ b.issued_by) a.fields b.fields named (both a.flags b.flags a.issued_by b.issued_by flags issuer)
 
 scope-one : One IsIssuingPoint
@@ -200,22 +228,41 @@ scope-one c d p oc od a b =
     let ob3 = AreOctets-back b.ca b3 ob2 in
     let oa4 = AreOctets-back a.flags (a.indirect ++ a.attribute) oa3 in
     let ob4 = AreOctets-back b.flags (b.indirect ++ b.attribute) ob3 in
-    let named = if-any-one 0xA0 IsPointName point-name-one a.named b.named p.distributionPoint (front c a.named a1 oc a.fields) (front d b.named b1 od b.fields) a.distributionPoint b.distributionPoint in
-    let user = if-true-one 0x81 a.user b.user p.onlyContainsUserCerts (AreOctets-front a.user (a.ca ++ a3) oa1) (AreOctets-front b.user (b.ca ++ b3) ob1) a.onlyContainsUserCerts b.onlyContainsUserCerts in
+    let named = if-any-one 0xA0 IsPointName point-name-one a.named b.named p.distributionPoint
+    (front c a.named a1 oc a.fields) (front d b.named b1 od b.fields) a.distributionPoint
+    b.distributionPoint in
+    let user = if-true-one 0x81 a.user b.user p.onlyContainsUserCerts
+    (AreOctets-front a.user (a.ca ++ a3) oa1) (AreOctets-front b.user (b.ca ++ b3) ob1)
+    a.onlyContainsUserCerts b.onlyContainsUserCerts in
     let ca = if-true-one 0x82 a.ca b.ca p.onlyContainsCACerts (AreOctets-front a.ca a3 oa2) (AreOctets-front b.ca b3 ob2) a.onlyContainsCACerts b.onlyContainsCACerts in
-    let flags = if-any-one 0x83 IsNamedBits bits-one a.flags b.flags p.onlySomeReasons (AreOctets-front a.flags (a.indirect ++ a.attribute) oa3) (AreOctets-front b.flags (b.indirect ++ b.attribute) ob3) a.onlySomeReasons b.onlySomeReasons in
+    let flags = if-any-one 0x83 IsNamedBits bits-one a.flags b.flags p.onlySomeReasons
+    (AreOctets-front a.flags (a.indirect ++ a.attribute) oa3)
+    (AreOctets-front b.flags (b.indirect ++ b.attribute) ob3) a.onlySomeReasons
+    b.onlySomeReasons in
     let indirect = if-true-one 0x84 a.indirect b.indirect p.indirectCRL (AreOctets-front a.indirect a.attribute oa4) (AreOctets-front b.indirect b.attribute ob4) a.indirectCRL b.indirectCRL in
-    let attribute = if-true-one 0x85 a.attribute b.attribute p.onlyContainsAttributeCerts (AreOctets-back a.indirect a.attribute oa4) (AreOctets-back b.indirect b.attribute ob4) a.onlyContainsAttributeCerts b.onlyContainsAttributeCerts in
+    let attribute = if-true-one 0x85 a.attribute b.attribute p.onlyContainsAttributeCerts
+    (AreOctets-back a.indirect a.attribute oa4) (AreOctets-back b.indirect b.attribute ob4)
+    a.onlyContainsAttributeCerts b.onlyContainsAttributeCerts in
     two c d a.named a1 b.named b1 a.fields b.fields named
-    (both a.user b.user (a.ca ++ a3) (b.ca ++ b3) user (both a.ca b.ca a3 b3 ca (both a.flags b.flags (a.indirect ++ a.attribute) (b.indirect ++ b.attribute) flags (both a.indirect b.indirect a.attribute b.attribute indirect attribute))))
+    (both a.user b.user (a.ca ++ a3) (b.ca ++ b3) user
+    (both a.ca b.ca a3 b3 ca
+    (both a.flags b.flags (a.indirect ++ a.attribute) (b.indirect ++ b.attribute) flags
+    (both a.indirect b.indirect a.attribute b.attribute indirect attribute))))
 
 key-one : One IsAuthorityKey
 key-one c d k oc od a b =
     let rest-a = back c a.key (a.issuer ++ a.serial) oc a.fields in
     let rest-b = back d b.key (b.issuer ++ b.serial) od b.fields in
-    let key = if-any-one 0x80 _ (λ v w x ov ow p q. p ∙ sym q) a.key b.key k.keyIdentifier (front c a.key (a.issuer ++ a.serial) oc a.fields) (front d b.key (b.issuer ++ b.serial) od b.fields) a.keyIdentifier b.keyIdentifier in
-    let issuer = if-any-one 0xA1 AreGeneralNames names-one a.issuer b.issuer k.authorityCertIssuer (AreOctets-front a.issuer a.serial rest-a) (AreOctets-front b.issuer b.serial rest-b) a.authorityCertIssuer b.authorityCertIssuer in
-    let serial = if-any-one 0x82 _ (λ v w x ov ow p q. p.0 ∙ sym q.0) a.serial b.serial k.authorityCertSerialNumber (AreOctets-back a.issuer a.serial rest-a) (AreOctets-back b.issuer b.serial rest-b) a.authorityCertSerialNumber b.authorityCertSerialNumber in
+    let key = if-any-one 0x80 _ (λ v w x ov ow p q. p ∙ sym q) a.key b.key k.keyIdentifier
+    (front c a.key (a.issuer ++ a.serial) oc a.fields)
+    (front d b.key (b.issuer ++ b.serial) od b.fields) a.keyIdentifier b.keyIdentifier in
+    let issuer = if-any-one 0xA1 AreGeneralNames names-one a.issuer b.issuer k.authorityCertIssuer
+    (AreOctets-front a.issuer a.serial rest-a) (AreOctets-front b.issuer b.serial rest-b)
+    a.authorityCertIssuer b.authorityCertIssuer in
+    let serial = if-any-one 0x82 _ (λ v w x ov ow p q. p.0 ∙ sym q.0) a.serial b.serial
+    k.authorityCertSerialNumber (AreOctets-back a.issuer a.serial rest-a)
+    (AreOctets-back b.issuer b.serial rest-b) a.authorityCertSerialNumber
+    b.authorityCertSerialNumber in
     two c d a.key (a.issuer ++ a.serial) b.key (b.issuer ++ b.serial) a.fields b.fields key (both a.issuer b.issuer a.serial b.serial issuer serial)
 
 -- ---- the value of an extension

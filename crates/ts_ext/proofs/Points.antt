@@ -22,7 +22,10 @@ use Rattle.ts_ext.proofs.Formats.{Format, value_of}
 use Rattle.ts_ext.proofs.NamedBits.{reason_flags-format}
 use Rattle.ts_ext.proofs.Flags.{flag-encoded, flag-again, flag-judged}
 use Rattle.ts_ext.proofs.Names.{begins-last, general_names-format, wrapped_name-format}
-use Rattle.ts_ext.specs.Points.{Point, ListScope, IsPointName, IsPoint, IsIssuingPoint, wrapped_name_of, point_of, issuing_point_of, point_name, point_fields, ArePoints, points_of, points_items, issuing_point_fields}
+use Rattle.ts_ext.specs.Points.{Point, ListScope, IsPointName, IsPoint, IsIssuingPoint}
+use Rattle.ts_ext.specs.Points.{wrapped_name_of, point_of, issuing_point_of, point_name}
+use Rattle.ts_ext.specs.Points.{point_fields, ArePoints, points_of, points_items}
+use Rattle.ts_ext.specs.Points.{issuing_point_fields}
 
 -- ---- distribution points
 
@@ -59,9 +62,15 @@ point-again e p is =
     let not_flags = begins-last 0xA2 AreGeneralNames 0x81 is.issued_by p.cRLIssuer is.cRLIssuer refl in
     let at1 = e.start + length is.named in
     let at2 = at1 + length is.flags in
-    let n = optional-again 0xA0 wrapped_name_of IsPointName (value_of wrapped_name-format 0xA0) (inside e) p.distributionPoint is.named (is.flags ++ is.issued_by) is.distributionPoint not_name is.fields in
-    let r = optional-again 0x81 reason_flags_of AreReasonFlags (value_of reason_flags-format 0x81) (record { rest = is.flags ++ is.issued_by; at = at1 }) p.reasons is.flags is.issued_by is.reasons not_flags refl in
-    let i = optional-again 0xA2 general_names_of AreGeneralNames (value_of general_names-format 0xA2) (record { rest = is.issued_by; at = at2 }) p.cRLIssuer is.issued_by [] is.cRLIssuer refl (sym (append-nil is.issued_by)) in
+    let n = optional-again 0xA0 wrapped_name_of IsPointName (value_of wrapped_name-format 0xA0)
+    (inside e) p.distributionPoint is.named (is.flags ++ is.issued_by) is.distributionPoint
+    not_name is.fields in
+    let r = optional-again 0x81 reason_flags_of AreReasonFlags (value_of reason_flags-format 0x81)
+    (record { rest = is.flags ++ is.issued_by; at = at1 }) p.reasons is.flags is.issued_by
+    is.reasons not_flags refl in
+    let i = optional-again 0xA2 general_names_of AreGeneralNames
+    (value_of general_names-format 0xA2) (record { rest = is.issued_by; at = at2 }) p.cRLIssuer
+    is.issued_by [] is.cRLIssuer refl (sym (append-nil is.issued_by)) in
     let d = end-again (at2 + length is.issued_by) in
     rw (n, r, i, d) refl
 
@@ -74,7 +83,9 @@ point-format =
       judged = λ e.
           no_more _ _ _
           (under (optional_of 0xA0 wrapped_name_of (inside e)) _ _ _
-          (optional-judged 0xA0 (point_name then nothing) no_rules (optional (primitive 0x81 reason_flags_rules) then optional (general_names 0xA2) then nothing) (inside e) wrapped_name_of _ Whatever _ wrapped_name-format.judged (λ name at1.
+          (optional-judged 0xA0 (point_name then nothing) no_rules
+          (optional (primitive 0x81 reason_flags_rules) then optional (general_names 0xA2) then
+          nothing) (inside e) wrapped_name_of _ Whatever _ wrapped_name-format.judged (λ name at1.
           under (optional_of 0x81 reason_flags_of at1) _ _ _
           (optional-judged 0x81 plain reason_flags_rules (optional (general_names 0xA2) then nothing) at1 reason_flags_of _ Whatever _ reason_flags-format.judged (λ reasons at2.
           under (optional_of 0xA2 general_names_of at2) _ _ _
@@ -101,7 +112,16 @@ issuing-found e p fits read =
     let i = bind_ok (flag_at 0x84 r.0.1) _ p r.2 in
     let a = bind_ok (flag_at 0x85 i.0.1) _ p i.2 in
     let d = bind_ok (end_at a.0.1) _ p a.2 in
-    let scope : ListScope = record { distributionPoint = n.0.0; onlyContainsUserCerts = u.0.0; onlyContainsCACerts = c.0.0; onlySomeReasons = r.0.0; indirectCRL = i.0.0; onlyContainsAttributeCerts = a.0.0 } in
+    let scope : ListScope =
+    record {
+      distributionPoint = n.0.0;
+      onlyContainsUserCerts = u.0.0;
+      onlyContainsCACerts =
+          c.0.0;
+      onlySomeReasons = r.0.0;
+      indirectCRL = i.0.0;
+      onlyContainsAttributeCerts = a.0.0;
+    } in
     let same : scope ≡ p = ok_is {A = ListScope} {E = Fault} scope p d.2 in
     let one = optional-found 0xA0 wrapped_name_of IsPointName (value_of wrapped_name-format 0xA0) (inside e) n.0.0 n.0.1 fits n.1 in
     let two = flag-encoded 0x81 n.0.1 u.0.0 u.0.1 one.3 u.1 in
@@ -166,7 +186,9 @@ issuing-again e p is =
     let n = optional-again 0xA0 wrapped_name_of IsPointName (value_of wrapped_name-format 0xA0) (inside e) p.distributionPoint is.named r2 is.distributionPoint two is.fields in
     let u = flag-again 0x81 (λ h. omega arith) (omega arith) (record { rest = r2; at = at1 }) p.onlyContainsUserCerts is.user r3 is.onlyContainsUserCerts (three 0x81 refl refl refl refl) refl in
     let c = flag-again 0x82 (λ h. omega arith) (omega arith) (record { rest = r3; at = at2 }) p.onlyContainsCACerts is.ca r4 is.onlyContainsCACerts (four 0x82 refl refl refl) refl in
-    let r = optional-again 0x83 reason_flags_of AreReasonFlags (value_of reason_flags-format 0x83) (record { rest = r4; at = at3 }) p.onlySomeReasons is.flags r5 is.onlySomeReasons ((not_begun p e.content is 0x83).at_indirect refl refl) refl in
+    let r = optional-again 0x83 reason_flags_of AreReasonFlags (value_of reason_flags-format 0x83)
+    (record { rest = r4; at = at3 }) p.onlySomeReasons is.flags r5 is.onlySomeReasons
+    ((not_begun p e.content is 0x83).at_indirect refl refl) refl in
     let i = flag-again 0x84 (λ h. omega arith) (omega arith) (record { rest = r5; at = at4 }) p.indirectCRL is.indirect r6 is.indirectCRL ((not_begun p e.content is 0x84).at_attribute refl) refl in
     let a = flag-again 0x85 (λ h. omega arith) (omega arith) (record { rest = r6; at = at5 }) p.onlyContainsAttributeCerts is.attribute [] is.onlyContainsAttributeCerts refl (sym (append-nil r6)) in
     let d = end-again (at5 + length r6) in

@@ -56,7 +56,9 @@ qualifier-again e q is =
 any-judged : {B : Type 0} (here : Place) (f : List ℕ → B) → Judged (der (next_at here >>= λ e. end_at e.1 >>= λ done. Ok (f e.0.whole))) (judge (any then nothing) here) (λ b. Unit {0})
 any-judged {B} here f =
     subst (λ (r : Result B CertFault). Judged r (judge (any then nothing) here) (λ b. Unit {0})) (sym (flat (next_at here)))
-    (next-judged any here (λ e. Ok e.whole) (λ x w. der (end_at x.1 >>= λ done. Ok (f w))) (judge nothing (behind here)) (λ w. Unit {0}) (λ b. Unit {0}) (refl, tt) (λ w h p. ends (behind here) (f w) _ (λ r. tt)))
+    (next-judged any here (λ e. Ok e.whole) (λ x w. der (end_at x.1 >>= λ done. Ok (f w)))
+    (judge nothing (behind here)) (λ w. Unit {0}) (λ b. Unit {0}) (refl, tt)
+    (λ w h p. ends (behind here) (f w) _ (λ r. tt)))
   where
     flat : (r : Result (Tlv × Place) Fault)
         → der (r >>= λ e. end_at e.1 >>= λ done. Ok (f e.0.whole)) ≡ (der r >>= λ x. Ok x.0.whole >>= λ w. der (end_at x.1 >>= λ done. Ok (f w)))
@@ -99,7 +101,9 @@ unfolding policy_information_of
 information-again e p is =
     let a = oid-part.again (inside e) p.policyIdentifier is.id is.qualifiers is.policyIdentifier is.fields in
     let place : Place = record { rest = is.qualifiers; at = e.start + length is.id } in
-    let b = optional-again 0x30 (some_of policy_qualifier_in) ArePolicyQualifiers (value_of qualifiers-format 0x30) place p.policyQualifiers is.qualifiers [] is.policyQualifiers refl (sym (append-nil is.qualifiers)) in
+    let b = optional-again 0x30 (some_of policy_qualifier_in) ArePolicyQualifiers
+    (value_of qualifiers-format 0x30) place p.policyQualifiers is.qualifiers
+    [] is.policyQualifiers refl (sym (append-nil is.qualifiers)) in
     let d = end-again (e.start + length is.id + length is.qualifiers) in
     rw (a, b, d) refl
 
@@ -114,7 +118,9 @@ information-format =
           (under (oid_at (inside e)) _ _ _
           (then-judged object_identifier (optional policy_qualifiers then nothing) (inside e) (λ here. der (oid_at here)) _ Whatever _ refl oid-reads (λ id p.
           under (optional_of 0x30 (some_of policy_qualifier_in) (behind (inside e))) _ _ _
-          (optional-judged 0x30 (items policy_qualifier_info) list_rules nothing (behind (inside e)) (some_of policy_qualifier_in) _ Whatever _ qualifiers-format.judged (λ qualifiers after. ends after _ _ (λ h. tt))))));
+          (optional-judged 0x30 (items policy_qualifier_info) list_rules nothing (behind (inside e))
+          (some_of policy_qualifier_in) _ Whatever _ qualifiers-format.judged
+          (λ qualifiers after. ends after _ _ (λ h. tt))))));
     }
 
 pub certificate_policies-format : Format certificate_policies_of AreCertificatePolicies certificate_policies list_rules

@@ -21,7 +21,9 @@ not-true false e = refl
 not-true true e = absurd cc
 
 -- an element of few octets
-pub few-within : {A : Type 0} (tag n : ℕ) (Encodes : List ℕ → A → Type 0) (content : List ℕ) (x : A) → tag < 256 → tag % 32 ≢ 31 → length content ≡ n → n < 128 → Encodes content x → Within tag Encodes (tag ∷ n ∷ content) x
+pub few-within : {A : Type 0} (tag n : ℕ) (Encodes : List ℕ → A → Type 0) (content : List ℕ) (x : A)
+    → tag < 256 → tag % 32 ≢ 31 → length content ≡ n → n < 128 → Encodes content x
+    → Within tag Encodes (tag ∷ n ∷ content) x
 few-within tag n Encodes content x octet low count few is =
     let form : length_octets (length content) ≡ n ∷ [] = ap length_octets count ∙ length_octets-short n few in
     record { content = content; fits = record { octet = octet; low = low; short = omega (arith, count) }; encoded = ap (λ (o : List ℕ). tag ∷ (o ++ content)) (sym form); value = is }
@@ -93,7 +95,9 @@ uri-point points h =
     )
 
 -- one such point more, at the front
-pub uris-more : (points first more uri : List ℕ) (uris : List (List ℕ)) → Within 0x30 IsPoint first (point_of_uri uri) → points ≡ first ++ more → AreItems (Within 0x30 IsPoint) more (map point_of_uri uris)
+pub uris-more : (points first more uri : List ℕ) (uris : List (List ℕ))
+    → Within 0x30 IsPoint first (point_of_uri uri) → points ≡ first ++ more
+    → AreItems (Within 0x30 IsPoint) more (map point_of_uri uris)
     → AreItems (Within 0x30 IsPoint) points (map point_of_uri (uri ∷ uris))
 uris-more points first more uri uris is whole rest = (first, more, is, whole, rest)
 

@@ -79,7 +79,9 @@ upto-octets : (n : ℕ) (here : Place) → AreOctets here.rest → AllOctets (up
 upto-octets zero here fits = tt
 upto-octets (suc n) here fits = by_end (λ after fits. upto-octets n after fits) (is_end here.rest)
   where
-    by_item : ((after : Place) → AreOctets after.rest → AllOctets (upto_from n located_in after)) → (r : Result (Located × Place) Fault) → each located_in here ≡ r → AllOctets (first_then r (upto_from n located_in))
+    by_item : ((after : Place) → AreOctets after.rest → AllOctets (upto_from n located_in after))
+        → (r : Result (Located × Place) Fault) → each located_in here ≡ r
+        → AllOctets (first_then r (upto_from n located_in))
     by_item more (Ok x) e = let o = each-octets here x.0 x.1 fits e in (o.0, more x.1 o.1)
     by_item more (Err f) e = tt
 
@@ -139,7 +141,10 @@ sound holder here fits = (are-sound holder (items_at located_in here) (all-octet
 -- ---- lists that were read
 
 pub some-octets : (e : Tlv) (xs : List Located) → AreOctets e.content → all_located_of e ≡ Ok xs → AllOctets xs
-some-octets e xs fits read = subst AllOctets (ok_is {A = List Located} {E = Fault} (items_at located_in (inside e)) xs (sym (some-walked located_in e (ap (λ r. refusal r) (sym read))) ∙ read)) (all-octets (inside e) fits)
+some-octets e xs fits read =
+    subst AllOctets (ok_is {A = List Located} {E = Fault} (items_at located_in (inside e)) xs
+    (sym (some-walked located_in e (ap (λ r. refusal r) (sym read))) ∙ read))
+    (all-octets (inside e) fits)
 
 -- the content of what is next is octets
 element-octets : {A : Type 0} (tag : ℕ) (value : Tlv → Result A Fault) (P : A → Type 0) → ((e : Tlv) (x : A) → AreOctets e.content → value e ≡ Ok x → P x)

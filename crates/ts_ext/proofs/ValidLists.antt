@@ -21,7 +21,7 @@ use Rattle.ts_shape.proofs.Parts.{element-took}
 use Rattle.ts_ext.specs.declared.known.Holder.TheVariants.{Certificate}
 use Rattle.ts_ext.specs.Extension.{Extension, IsExtension, AreExtensions, Located, unlocated, located_of, located_in, all_located_of, extensions_of}
 use Rattle.ts_ext.specs.Valid.{IsNewKey, IsValidUnder, IsValidAndNew, AreValidOnce}
-use Rattle.ts_ext.specs.ValueRules.{value_fault, values_fault, list_fault, repeated_fault, AreValid}
+use Rattle.ts_ext.specs.ValueRules.{value_fault, values_fault, extension_list_fault, repeated_fault, AreValid}
 use Rattle.ts_ext.proofs.ExtensionParts.{located-found, extensions-format}
 use Rattle.ts_ext.proofs.Unlocated.{extensions-see}
 use Rattle.ts_ext.proofs.ValidExtensions.{AllOctets, located-octets, sound-if, are-sound, no-fault, some-octets as all-octets-of}
@@ -34,7 +34,10 @@ pub new-under : (arc : ℕ) (before after : List Bool) (item : List ℕ) → IsV
 new-under arc before after item is new = (is.0, is.1, is.2, subst (IsNewKey before after) (sym is.3) new)
 
 -- one that is at the front of octets, as it is read
-pub stands-sound : (octets : List ℕ) (e : Tlv) (rest : Place) (x : Located) (before after : List Bool) → AreOctets octets → element_at 0x30 (record { rest = octets; at = 0 }) ≡ Ok (e, rest) → located_of e ≡ Ok x → value_fault Certificate x ≡ None → IsNewKey before after x.extnID
+pub stands-sound : (octets : List ℕ) (e : Tlv) (rest : Place) (x : Located)
+    (before after : List Bool) → AreOctets octets
+    → element_at 0x30 (record { rest = octets; at = 0 }) ≡ Ok (e, rest) → located_of e ≡ Ok x
+    → value_fault Certificate x ≡ None → IsNewKey before after x.extnID
     → IsValidAndNew before after (take (length e.whole) octets) × (length e.whole ≤ length octets)
 stands-sound octets e rest x before after fits read stands sound new =
     let t = element-took 0x30 (record { rest = octets; at = 0 }) e rest fits read in
@@ -81,7 +84,9 @@ some-octets before after rest zero is = no-octets _ _ is.1.encoded
 some-octets before after rest (suc n) is = omega arith
 
 -- nothing is left of octets that are not empty
-pub all-sound : (octets : List ℕ) (ends : List Bool) (rest : List ℕ) (empty : Bool) → IsLeft octets ends rest → eqb (length rest) 0 ≡ true → empty ≡ eqb (length octets) 0 → not empty ≡ true → AreValidOnce octets
+pub all-sound : (octets : List ℕ) (ends : List Bool) (rest : List ℕ) (empty : Bool)
+    → IsLeft octets ends rest → eqb (length rest) 0 ≡ true → empty ≡ eqb (length octets) 0
+    → not empty ≡ true → AreValidOnce octets
 unfolding first_repeated
 all-sound octets ends rest empty left done is some =
     let all = left.2 ([], nil_from_length rest (eqb-true (length rest) 0 done), refl, tt) in
@@ -104,7 +109,9 @@ unlocated-once seen [] = refl
 unlocated-once seen (x ∷ xs) = by_key (unlocated-once (x.extnID ∷ seen) xs) (is_among x.extnID seen)
   where
     by_key : first_repeated (λ x. x.extnID) (x.extnID ∷ seen) (map unlocated xs) ≡ option_map unlocated (first_repeated (λ x. x.extnID) (x.extnID ∷ seen) xs)
-        → (b : Bool) → cond b (Some (unlocated x)) (first_repeated (λ x. x.extnID) (x.extnID ∷ seen) (map unlocated xs)) ≡ option_map unlocated (cond b (Some x) (first_repeated (λ x. x.extnID) (x.extnID ∷ seen) xs))
+        → (b : Bool) → cond b (Some (unlocated x))
+        (first_repeated (λ x. x.extnID) (x.extnID ∷ seen) (map unlocated xs)) ≡ option_map
+        unlocated (cond b (Some x) (first_repeated (λ x. x.extnID) (x.extnID ∷ seen) xs))
     by_key more true = refl
     by_key more false = more
 
@@ -117,12 +124,12 @@ repeats-none None e = refl
 repeats-none (Some x) e = absurd cc
 
 -- a list without a fault, by what its extensions say
-pub without-fault : (content : List ℕ) (xs : List Located) → AllOctets xs → AreExtensions content (map unlocated xs) → list_fault Certificate xs ≡ None → AreValidOnce content
+pub without-fault : (content : List ℕ) (xs : List Located) → AllOctets xs → AreExtensions content (map unlocated xs) → extension_list_fault Certificate xs ≡ None → AreValidOnce content
 without-fault content xs fits are none =
     let both = neither (repeated_fault xs) (values_fault Certificate xs) none in
     (map unlocated xs, are, unlocated-once [] xs ∙ none-repeated _ both.0, are-sound Certificate xs fits both.1)
 
-pub no-list-fault : (content : List ℕ) (xs : List Located) (all : AreValidOnce content) → map unlocated xs ≡ all.0 → list_fault Certificate xs ≡ None
+pub no-list-fault : (content : List ℕ) (xs : List Located) (all : AreValidOnce content) → map unlocated xs ≡ all.0 → extension_list_fault Certificate xs ≡ None
 no-list-fault content xs all same =
     let once : first_repeated (λ (x : Extension). x.extnID) [] (map unlocated xs) ≡ None = ap (first_repeated (λ (x : Extension). x.extnID) []) same ∙ all.2 in
     let repeated = repeats-none _ (sym (unlocated-once [] xs) ∙ once) in
@@ -133,7 +140,9 @@ told-true true e = refl
 told-true false e = absurd (false≢true e)
 
 -- whether a list that was read has no fault, and that of one that was not
-pub told-of-read : (e : Tlv) (xs : List Located) (fault : Option CertFault) (told : Bool) → AreOctets e.content → all_located_of e ≡ Ok xs → fault ≡ list_fault Certificate xs → is_some fault ≡ not told → (told ≡ true) ↔ AreValidOnce e.content
+pub told-of-read : (e : Tlv) (xs : List Located) (fault : Option CertFault) (told : Bool)
+    → AreOctets e.content → all_located_of e ≡ Ok xs → fault ≡ extension_list_fault Certificate xs
+    → is_some fault ≡ not told → (told ≡ true) ↔ AreValidOnce e.content
 told-of-read e xs fault told fits read is told_is =
     let unlocated_is : extensions_of e ≡ Ok (map unlocated xs) = extensions-see e ∙ ap (λ (r : Result (List Located) Fault). r >>= λ ys. Ok (map unlocated ys)) read in (
       (λ h. without-fault e.content xs (all-octets-of e xs fits read) (extensions-format.found e (map unlocated xs) fits unlocated_is) (sym is ∙ none-of fault (told_is ∙ ap not h))),
@@ -151,10 +160,10 @@ told-of-unread e f read =
     )
 
 -- a list that is sound is read, and has no fault
-pub sound-read : (e : Tlv) → AreValidOnce e.content → (all_located_of e ≡ Ok (items_at located_in (inside e))) × (list_fault Certificate (items_at located_in (inside e)) ≡ None)
+pub sound-read : (e : Tlv) → AreValidOnce e.content → (all_located_of e ≡ Ok (items_at located_in (inside e))) × (extension_list_fault Certificate (items_at located_in (inside e)) ≡ None)
 sound-read e all =
     let s = bind_ok (all_located_of e) (λ xs. Ok (map unlocated xs)) all.0 (sym (extensions-see e) ∙ extensions-format.again e all.0 all.1) in
     let walked = some-walked located_in e (ap (λ (r : Result (List Located) Fault). refusal r) (sym s.1)) in
     let same : map unlocated s.0 ≡ all.0 = ok_is {A = List Extension} {E = Fault} (map unlocated s.0) all.0 s.2 in
     let here : items_at located_in (inside e) ≡ s.0 = ok_is {A = List Located} {E = Fault} (items_at located_in (inside e)) s.0 (sym walked ∙ s.1) in
-    (walked, ap (λ (xs : List Located). list_fault Certificate xs) here ∙ no-list-fault e.content s.0 all same)
+    (walked, ap (λ (xs : List Located). extension_list_fault Certificate xs) here ∙ no-list-fault e.content s.0 all same)

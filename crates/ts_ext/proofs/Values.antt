@@ -8,11 +8,17 @@ use Rattle.ts_der.specs.Octets.{AreOctets}
 use Rattle.ts_der.specs.Rules.{first_broken}
 use Rattle.ts_der.specs.Element.{number}
 use Rattle.ts_der.specs.Integer.{is_shortest, is_negative, integer_rules, small_rules}
-use Rattle.ts_time.specs.Reading.{general_in}
+use Rattle.ts_time.specs.Reading.{generalized_time_in}
 use Rattle.ts_time.proofs.ReadingLemmas.{general_in-found, general_in-only}
 use Rattle.ts_shape.specs.Shape.{plain}
 use Rattle.ts_ext.specs.declared.reason_code.ReasonCode.{ReasonCode}
-use Rattle.ts_ext.specs.declared.reason_code.ReasonCode.TheVariants.{Unspecified, KeyCompromise, CaCompromise, AffiliationChanged, Superseded, CessationOfOperation, CertificateHold, RemoveFromCrl, PrivilegeWithdrawn, AaCompromise}
+use Rattle.ts_ext.specs.declared.reason_code.ReasonCode.TheVariants.{Unspecified, KeyCompromise}
+use Rattle.ts_ext.specs.declared.reason_code.ReasonCode.TheVariants.{CaCompromise}
+use Rattle.ts_ext.specs.declared.reason_code.ReasonCode.TheVariants.{AffiliationChanged, Superseded}
+use Rattle.ts_ext.specs.declared.reason_code.ReasonCode.TheVariants.{CessationOfOperation}
+use Rattle.ts_ext.specs.declared.reason_code.ReasonCode.TheVariants.{CertificateHold, RemoveFromCrl}
+use Rattle.ts_ext.specs.declared.reason_code.ReasonCode.TheVariants.{PrivilegeWithdrawn}
+use Rattle.ts_ext.specs.declared.reason_code.ReasonCode.TheVariants.{AaCompromise}
 use Rattle.ts_ext.specs.Encoding.{IsSmall, IsCrlNumber, IsBaseCrlNumber, reason_number, IsReasonCode, IsInvalidityDate}
 use Rattle.ts_ext.specs.Table.{natural_rules, crl_number_rules, base_crl_number_rules, small_integer_rules, reasons, reason_of_number, reason_in, reason_code_rules, invalidity_date_rules}
 use Rattle.ts_ext.specs.Reading.{crl_number_of, base_crl_number_of, small_of, reason_code_of, invalidity_date_of}
@@ -98,4 +104,4 @@ reason_code-format = by_name IntegerForm reason_in IsReasonCode reason-found (λ
 
 pub invalidity_date-format : Format invalidity_date_of IsInvalidityDate plain invalidity_date_rules
 unfolding invalidity_date_of
-invalidity_date-format = by_name TimeForm general_in IsInvalidityDate general_in-found general_in-only
+invalidity_date-format = by_name TimeForm generalized_time_in IsInvalidityDate general_in-found general_in-only

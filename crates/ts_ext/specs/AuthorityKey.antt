@@ -19,8 +19,8 @@ pub record AuthorityKey : Type 0 where
 abbrev pub AreOctetsOf : List ℕ → List ℕ → Type 0
 AreOctetsOf content octets = content ≡ octets
 
-abbrev pub octets_of : Tlv → Result (List ℕ) Fault
-octets_of e = Ok e.content
+abbrev pub content_octets_of : Tlv → Result (List ℕ) Fault
+content_octets_of e = Ok e.content
 
 -- CertificateSerialNumber ::= INTEGER
 abbrev pub serial_of : Tlv → Result (List ℕ) Fault
@@ -40,7 +40,7 @@ pub record IsAuthorityKey (content : List ℕ) (a : AuthorityKey) : Type 0 where
 
 unfoldable pub authority_key_of : Tlv → Result AuthorityKey Fault
 authority_key_of e = do
-  key ← optional_of 0x80 octets_of (inside e)
+  key ← optional_of 0x80 content_octets_of (inside e)
   issuer ← optional_of 0xA1 general_names_of key.1
   serial ← optional_of 0x82 serial_of issuer.1
   done ← end_at serial.1

@@ -30,7 +30,7 @@ use Rattle.ts_ext.specs.Table.{ext_key_usage, skip_certs_rules, list_rules}
 use Rattle.ts_ext.specs.GeneralNames.{AreGeneralNames, general_names_of, general_names_items}
 use Rattle.ts_ext.specs.Points.{Point, ListScope, ArePoints, points_of, points_items}
 use Rattle.ts_ext.specs.Points.{IsIssuingPoint, issuing_point_of, issuing_point_fields}
-use Rattle.ts_ext.specs.AuthorityKey.{AuthorityKey, AreOctetsOf, octets_of, IsAuthorityKey}
+use Rattle.ts_ext.specs.AuthorityKey.{AuthorityKey, AreOctetsOf, content_octets_of, IsAuthorityKey}
 use Rattle.ts_ext.specs.AuthorityKey.{authority_key_of, authority_key_fields}
 use Rattle.ts_ext.specs.NameConstraints.{Constraints, AreConstraints, name_constraints_of}
 use Rattle.ts_ext.specs.NameConstraints.{name_constraints_fields}
@@ -165,7 +165,7 @@ read_as value form e = value e >>= λ x. Ok (form x)
 
 -- what an element is read as, as the value of an extension, whatever its tag is
 abbrev pub content_of : Known → Tlv → Result ExtValue Fault
-content_of extension.SubjectKeyIdentifier = read_as octets_of (λ x. subjectKeyIdentifier x)
+content_of extension.SubjectKeyIdentifier = read_as content_octets_of (λ x. subjectKeyIdentifier x)
 content_of extension.KeyUsage = read_as key_usage_of (λ x. keyUsage x)
 content_of extension.SubjectAltName = read_as general_names_of (λ x. subjectAltName x)
 content_of extension.IssuerAltName = read_as general_names_of (λ x. issuerAltName x)

@@ -5,7 +5,7 @@ use Rattle.ts_der.specs.declared.fault.DerFault.TheVariants.{IntegerForm}
 use Rattle.ts_der.specs.declared.fault.Fault.{Fault}
 use Rattle.ts_der.specs.Answer.{◌>>=◌}
 use Rattle.ts_der.specs.Element.{Tlv, number, inside}
-use Rattle.ts_der.specs.Reading.{located, value_at, next_at, end_at}
+use Rattle.ts_der.specs.Reading.{at_element, value_at, next_at, end_at}
 use Rattle.ts_der.specs.ObjectIdentifier.{oid_rules}
 use Rattle.ts_der.specs.Default.{flag_at}
 use Rattle.ts_der.specs.Integer.{integer_rules, small_rules}
@@ -42,11 +42,11 @@ skip_certs_of = small_of
 
 -- CRLReason (5.3.1)
 unfoldable pub reason_code_of : Tlv → Result ReasonCode Fault
-reason_code_of e = located e.at (ok_or (reason_in e.content) IntegerForm)
+reason_code_of e = at_element e.at (ok_or (reason_in e.content) IntegerForm)
 
 -- InvalidityDate (5.3.2)
 unfoldable pub invalidity_date_of : Tlv → Result ℤ Fault
-invalidity_date_of e = located e.at (general_value e.content)
+invalidity_date_of e = at_element e.at (general_value e.content)
 
 -- ---- named bits
 

@@ -1,4 +1,5 @@
--- What a certificate, a CRL or an entry says by an extension (RFC 5280 4.2, 5.2, 5.3): the value that
+-- What a certificate, a CRL or an entry says by an extension (RFC 5280 4.2, 5.2, 5.3): the value
+-- that
 -- its octets encode.
 use Rattle.std.specs.Prelude.{◌≡◌, ◌↔◌, ℕ, List, Option, Some, None}
 use Rattle.ts_ext.specs.Extension.{Extension}

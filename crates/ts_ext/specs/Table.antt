@@ -6,7 +6,7 @@ use Rattle.ts_der.specs.Rules.{Rule, rule}
 use Rattle.ts_der.specs.Integer.{is_shortest, is_negative, integer_rules, small_rules}
 use Rattle.ts_der.specs.Boolean.{boolean_rules, boolean_value}
 use Rattle.ts_der.specs.BitString.{named_bits_rules}
-use Rattle.ts_time.specs.Reading.{general_in}
+use Rattle.ts_time.specs.Reading.{generalized_time_in}
 use Rattle.ts_shape.specs.declared.fault.CertRule.TheVariants.{Der}
 use Rattle.ts_shape.specs.Items.{some_rules}
 use Rattle.ts_shape.specs.Shape.{ContentRules, Row, tagged, no_other, any, optional, Shape, items}
@@ -70,7 +70,7 @@ reason_code_rules = one_rule (Der IntegerForm) (λ c. not (is_some (reason_in c)
 
 -- InvalidityDate ::= GeneralizedTime (5.3.2)
 abbrev pub invalidity_date_rules : ContentRules
-invalidity_date_rules = one_rule (Der TimeForm) (λ c. not (is_some (general_in c)))
+invalidity_date_rules = one_rule (Der TimeForm) (λ c. not (is_some (generalized_time_in c)))
 
 -- ---- named bits
 

@@ -47,8 +47,8 @@ values_fault holder [] = None
 values_fault holder (x ∷ xs) = value_fault holder x or_else values_fault holder xs
 
 -- the first rule that a list breaks: that none occurs twice, then those of the values
-abbrev pub list_fault : Holder → List Located → Option CertFault
-list_fault holder xs = repeated_fault xs or_else values_fault holder xs
+abbrev pub extension_list_fault : Holder → List Located → Option CertFault
+extension_list_fault holder xs = repeated_fault xs or_else values_fault holder xs
 
 -- ---- lists whose values break no rule
 

@@ -9,7 +9,7 @@ ghost use Rattle.ts_shape.specs.Shape.{no_rules};
 ghost use Rattle.ts_shape.specs.Steps.{Takes};
 ghost use Rattle.ts_ext.specs.Inner.{inner_fault};
 ghost use Rattle.ts_ext.specs.NameViews.{authority_key_in};
-ghost use Rattle.ts_ext.specs.AuthorityKey.{octets_of, serial_of, authority_key_of};
+ghost use Rattle.ts_ext.specs.AuthorityKey.{content_octets_of, serial_of, authority_key_of};
 ghost use Rattle.ts_ext.specs.AuthorityKey.{authority_key_fields, IsAuthorityKey, AuthorityKey};
 
 use crate::fields::next_names_if_any;
@@ -37,7 +37,7 @@ pub struct AuthorityKeyIdentifier<'a> {
 #[tactic(auto, unfolding(ts_shape::specs::Fields::optional_of, ts_der::specs::Reading::optional_at))]
 fn next_key<'a>(fields: &mut Reader<'a>) -> Result<Option<&'a [u8]>, Fault>
     ensures { Takes (option_map (λ k. k.now)) fields.new result
-        (optional_of 0x80 octets_of fields.old) }
+        (optional_of 0x80 content_octets_of fields.old) }
 {
     match fields.optional(KEY_IDENTIFIER)? {
         Some(element) => Ok(Some(element.content)),

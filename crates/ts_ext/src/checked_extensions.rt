@@ -12,7 +12,7 @@ ghost use Rattle.ts_ext.specs.Inner.{inner_fault};
 ghost use Rattle.ts_ext.specs.Extension.{Extension as Stated, AreExplicit, explicit_extensions};
 ghost use Rattle.ts_ext.specs.Extension.{located_in, all_located_of, explicit_all_located_of};
 ghost use Rattle.ts_ext.specs.ExtensionView.{all_located_in, extensions_in};
-ghost use Rattle.ts_ext.specs.ValueRules.{values_fault, list_fault};
+ghost use Rattle.ts_ext.specs.ValueRules.{values_fault, extension_list_fault};
 
 use crate::extension::{Extension, read_extension};
 use crate::extensions::Extensions;
@@ -56,7 +56,7 @@ impl<'a> CheckedExtensions<'a> {
         ensures placed { Answers (λ j. all_located_in j.extensions) result
             (explicit_all_located_of (now element.entry)) }
         ensures judged { IfOk result (λ j. j.fault
-            ≡ list_fault holder (all_located_in j.extensions)) }
+            ≡ extension_list_fault holder (all_located_in j.extensions)) }
     {
         judge_explicit(element, holder)
     }
@@ -69,7 +69,8 @@ impl<'a> CheckedExtensions<'a> {
 fn judge_explicit<'a>(element: Element<'a>, holder: Holder) -> Result<CheckedExtensions<'a>, Fault>
     ensures placed { Answers (λ j. all_located_in j.extensions) result
         (explicit_all_located_of (now element.entry)) }
-    ensures judged { IfOk result (λ j. j.fault ≡ list_fault holder (all_located_in j.extensions)) }
+    ensures judged { IfOk result (λ j. j.fault ≡ extension_list_fault
+        holder (all_located_in j.extensions)) }
 {
     let mut rest = element.reader();
     let judged = judge(tagged_as(rest.next()?, SEQUENCE)?, holder)?;
@@ -83,7 +84,8 @@ fn judge_explicit<'a>(element: Element<'a>, holder: Holder) -> Result<CheckedExt
 fn judge<'a>(element: Element<'a>, holder: Holder) -> Result<CheckedExtensions<'a>, Fault>
     ensures placed { Answers (λ j. all_located_in j.extensions) result
         (all_located_of (now element.entry)) }
-    ensures judged { IfOk result (λ j. j.fault ≡ list_fault holder (all_located_in j.extensions)) }
+    ensures judged { IfOk result (λ j. j.fault ≡ extension_list_fault
+        holder (all_located_in j.extensions)) }
 {
     match holder {
         Holder::Certificate if have_ends_of_their_own(element.content) => Ok(CheckedExtensions {
@@ -102,7 +104,8 @@ pub(crate) fn judge_each<'a>(
 ) -> Result<CheckedExtensions<'a>, Fault>
     ensures placed { Answers (λ j. all_located_in j.extensions) result
         (all_located_of (now element.entry)) }
-    ensures judged { IfOk result (λ j. j.fault ≡ list_fault holder (all_located_in j.extensions)) }
+    ensures judged { IfOk result (λ j. j.fault ≡ extension_list_fault
+        holder (all_located_in j.extensions)) }
 {
     let fault = fault_of_list(element, holder)?;
     Ok(CheckedExtensions {
@@ -116,7 +119,7 @@ pub(crate) fn judge_each<'a>(
 fn fault_of_list(element: Element<'_>, holder: Holder) -> Result<Option<CertFault>, Fault>
     ensures shape { refusal result ≡ refusal (all_located_of (now element.entry)) }
     ensures fault { IfOk result (λ fault. fault
-        ≡ list_fault holder (items_at located_in (inside (now element.entry)))) }
+        ≡ extension_list_fault holder (items_at located_in (inside (now element.entry)))) }
 {
     let findings = walk(element, holder)?;
     if findings.have_ends_of_their_own {

@@ -56,7 +56,7 @@ impl ReasonCode {
 
     /// The reason that has this number, if one has it.
     #[tactic(auto, unfolding(crate::specs::Table::reason_of_number))]
-    pub fn numbered(number: u8) -> Option<ReasonCode>
+    pub fn of_number(number: u8) -> Option<ReasonCode>
         ensures { result ≡ reason_of_number number }
     {
         match number {
@@ -86,6 +86,6 @@ impl ReasonCode {
                 at: element.at,
             });
         };
-        element.located(ReasonCode::numbered(*octet).ok_or(DerFault::IntegerForm))
+        element.located(ReasonCode::of_number(*octet).ok_or(DerFault::IntegerForm))
     }
 }

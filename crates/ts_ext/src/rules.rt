@@ -76,7 +76,7 @@ fn points_have_address_length(points: DistributionPoints<'_>) -> bool
 
 /// What the subtrees of a list keep to.
 #[derive(Clone, Copy)]
-struct Bounds {
+struct SubtreeBounds {
     /// Each has minimum zero and no maximum.
     are_unbounded: bool,
     /// Each IP address among their bases has 8 octets or 32.
@@ -84,13 +84,13 @@ struct Bounds {
 }
 
 /// What the subtrees of a list, if there is one, keep to.
-fn bounds_of<'a>(subtrees: Option<SequenceOf<'a, Subtree<'a>>>) -> Bounds
+fn bounds_of<'a>(subtrees: Option<SequenceOf<'a, Subtree<'a>>>) -> SubtreeBounds
     ensures unbounded { result.are_unbounded
         ≡ all_of is_unbounded (option_map subtrees_in subtrees.entry) }
     ensures range { result.have_range_length
         ≡ all_of (λ s. has_range_length s.base) (option_map subtrees_in subtrees.entry) }
 {
-    let mut bounds = Bounds {
+    let mut bounds = SubtreeBounds {
         are_unbounded: true,
         have_range_length: true,
     };

@@ -20,13 +20,20 @@ parameters-found : (here : Place) (p : Option (List ℕ)) (after : Place) → Ar
 unfolding parameters_at
 parameters-found here p after fits read = by_end (is_end here.rest) read
   where
-    by_end : (b : Bool) → cond {A = Result (Option (List ℕ) × Place) Fault} b (Ok (None, here)) (next_at here >>= λ e. Ok (Some e.0.whole, e.1)) ≡ Ok (p, after) → AreParameters p × (here.rest ≡ unwrap_or p [] ++ after.rest)
-    by_end true e = subst (λ (x : Option (List ℕ) × Place). AreParameters x.0 × (here.rest ≡ unwrap_or x.0 [] ++ x.1.rest)) (ok_is {A = Option (List ℕ) × Place} {E = Fault} (None, here) (p, after) e) (tt, refl)
+    by_end : (b : Bool) → cond {A = Result (Option (List ℕ) × Place) Fault} b (Ok (None, here))
+        (next_at here >>= λ e. Ok (Some e.0.whole, e.1)) ≡ Ok (p, after) → AreParameters p
+        × (here.rest ≡ unwrap_or p [] ++ after.rest)
+    by_end true e = subst (λ (x : Option (List ℕ) × Place). AreParameters x.0
+        × (here.rest ≡ unwrap_or x.0 [] ++ x.1.rest))
+        (ok_is {A = Option (List ℕ) × Place} {E = Fault} (None, here) (p, after) e) (tt, refl)
     by_end false e =
         let b = bind_ok (next_at here) (λ e. Ok (Some e.0.whole, e.1)) (p, after) e in
         let s = next-found here b.0.0 b.0.1 fits b.1 in
         let is : IsAny b.0.0.whole = record { tag = b.0.0.tag; content = b.0.0.content; fits = s.fits; encoded = s.encoded } in
-        subst (λ (x : Option (List ℕ) × Place). AreParameters x.0 × (here.rest ≡ unwrap_or x.0 [] ++ x.1.rest)) (ok_is {A = Option (List ℕ) × Place} {E = Fault} (Some b.0.0.whole, b.0.1) (p, after) b.2) (is, s.whole)
+        subst (λ (x : Option (List ℕ) × Place). AreParameters x.0
+        × (here.rest ≡ unwrap_or x.0 [] ++ x.1.rest))
+        (ok_is {A = Option (List ℕ) × Place} {E = Fault} (Some b.0.0.whole, b.0.1)
+        (p, after) b.2) (is, s.whole)
 
 no_more : (n : ℕ) → n ≡ n + 0
 no_more n = omega arith

@@ -5,8 +5,8 @@ use Rattle.ts_der.specs.declared.fault.DerFault.TheVariants.{WrongTag, TimeForm}
 use Rattle.ts_der.specs.declared.fault.Fault.{Fault}
 use Rattle.ts_der.specs.Answer.{◌>>=◌}
 use Rattle.ts_der.specs.Element.{Place, Tlv, inside}
-use Rattle.ts_der.specs.Reading.{fault_at, is_end, element_of, behind, next_at, located}
-use Rattle.ts_time.specs.Reading.{utc_in, general_in, utc_value, general_value}
+use Rattle.ts_der.specs.Reading.{fault_at, is_end, element_of, behind, next_at, at_element}
+use Rattle.ts_time.specs.Reading.{utc_in, generalized_time_in, utc_value, general_value}
 use Rattle.ts_shape.specs.declared.fault.CertRule.TheVariants.{Der}
 use Rattle.ts_shape.specs.declared.fault.CertFault.{CertFault}
 use Rattle.ts_shape.specs.Fault.{der, breaks}
@@ -56,7 +56,7 @@ algorithm-reads = within-reads 0x30 (object_identifier then optional any then no
 
 -- a moment, if octets name one
 moment-judged : (at : ℕ) (o : Option ℤ) (form : ℤ → Time)
-    → Judged (der (located at (ok_or o TimeForm) >>= λ m. Ok (form m))) (option_map (breaks at) (cond (not (is_some o)) (Some (Der TimeForm)) None)) (λ t. Unit {0})
+    → Judged (der (at_element at (ok_or o TimeForm) >>= λ m. Ok (form m))) (option_map (breaks at) (cond (not (is_some o)) (Some (Der TimeForm)) None)) (λ t. Unit {0})
 moment-judged at None form = refl
 moment-judged at (Some m) form = (refl, tt)
 
@@ -65,12 +65,15 @@ unfolding time_of
 time-judged e = by_tag (eqb e.tag 0x17) (eqb e.tag 0x18)
   where
     by_tag : (b c : Bool)
-        → Judged (der (cond b (located e.at (utc_value e.content) >>= λ m. Ok (record { form = Utc; moment = m })) (cond c (located e.at (general_value e.content) >>= λ m. Ok (record { form = General; moment = m })) (Err (fault_at e.at WrongTag)))))
+        → Judged (der (cond b
+        (at_element e.at (utc_value e.content) >>= λ m. Ok (record { form = Utc; moment = m }))
+        (cond c (at_element e.at (general_value e.content) >>= λ m. Ok
+        (record { form = General; moment = m })) (Err (fault_at e.at WrongTag)))))
         (cond b (option_map (breaks e.at) (one_rule (Der TimeForm) (λ c. not (is_some (utc_in c))) e.content))
-        (cond c (option_map (breaks e.at) (one_rule (Der TimeForm) (λ c. not (is_some (general_in c))) e.content)) (Some (breaks e.at (Der WrongTag)))))
+        (cond c (option_map (breaks e.at) (one_rule (Der TimeForm) (λ c. not (is_some (generalized_time_in c))) e.content)) (Some (breaks e.at (Der WrongTag)))))
         (λ (t : Time). Unit {0})
     by_tag true c = moment-judged e.at (utc_in e.content) (λ m. record { form = Utc; moment = m })
-    by_tag false true = moment-judged e.at (general_in e.content) (λ m. record { form = General; moment = m })
+    by_tag false true = moment-judged e.at (generalized_time_in e.content) (λ m. record { form = General; moment = m })
     by_tag false false = refl
 
 pub time-reads : Reads time (λ here. der (time_at here)) Whatever

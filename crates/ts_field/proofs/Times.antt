@@ -7,11 +7,11 @@ use Rattle.ts_der.specs.declared.fault.Fault.{Fault}
 use Rattle.ts_der.specs.Octets.{AreOctets}
 use Rattle.ts_der.specs.Answer.{◌>>=◌}
 use Rattle.ts_der.specs.Element.{Place, Tlv, Fits, encode}
-use Rattle.ts_der.specs.Reading.{fault_at, located, next_at}
+use Rattle.ts_der.specs.Reading.{fault_at, at_element, next_at}
 use Rattle.ts_der.proofs.Elements.{next-found}
 use Rattle.ts_der.proofs.Laws.{bind_ok, ok_is, next-only}
 use Rattle.ts_time.specs.Text.{IsUtc, IsGeneral}
-use Rattle.ts_time.specs.Reading.{utc_in, utc_value, general_in, general_value}
+use Rattle.ts_time.specs.Reading.{utc_in, utc_value, generalized_time_in, general_value}
 use Rattle.ts_time.proofs.ReadingLemmas.{utc_in-found, utc_in-only, general_in-found, general_in-only}
 use Rattle.ts_shape.specs.Fields.{Within}
 use Rattle.ts_shape.proofs.Parts.{Part}
@@ -20,19 +20,21 @@ use Rattle.ts_field.specs.declared.time.TimeForm.TheVariants.{Utc, General}
 use Rattle.ts_field.specs.declared.time.Time.{Time}
 use Rattle.ts_field.specs.Time.{IsTimeIn, IsTime, time_of, time_at}
 
-moment-ok : (o : Option ℤ) (at : ℕ) (m : ℤ) → located at (ok_or o TimeRule) ≡ Ok m → o ≡ Some m
+moment-ok : (o : Option ℤ) (at : ℕ) (m : ℤ) → at_element at (ok_or o TimeRule) ≡ Ok m → o ≡ Some m
 moment-ok (Some n) at m e = ap (λ (z : ℤ). Some z) (ok_is {E = Fault} n m e)
 moment-ok None at m e = absurd cc
 
 -- the content of an element of this tag
-at_tag : {A : Type 0} (tag : ℕ) (Encodes : List ℕ → A → Type 0) (e : Tlv) (x : A) → e.tag ≡ tag → Fits e.tag e.content → e.whole ≡ encode e.tag e.content → Encodes e.content x → Within tag Encodes e.whole x
+at_tag : {A : Type 0} (tag : ℕ) (Encodes : List ℕ → A → Type 0) (e : Tlv) (x : A) → e.tag ≡ tag
+    → Fits e.tag e.content → e.whole ≡ encode e.tag e.content → Encodes e.content x
+    → Within tag Encodes e.whole x
 at_tag tag Encodes e x t fits encoded is =
     record { content = e.content; fits = subst (λ (u : ℕ). Fits u e.content) t fits; encoded = encoded ∙ ap (λ (u : ℕ). encode u e.content) t; value = is }
 
 abbrev time_by : Bool → Bool → Tlv → Result Time Fault
 time_by utc general e =
-    cond utc (located e.at (utc_value e.content) >>= λ m. Ok (record { form = Utc; moment = m }))
-    (cond general (located e.at (general_value e.content) >>= λ m. Ok (record { form = General; moment = m })) (Err (fault_at e.at WrongTag)))
+    cond utc (at_element e.at (utc_value e.content) >>= λ m. Ok (record { form = Utc; moment = m }))
+    (cond general (at_element e.at (general_value e.content) >>= λ m. Ok (record { form = General; moment = m })) (Err (fault_at e.at WrongTag)))
 
 pub time_of-found : (e : Tlv) (t : Time) → Fits e.tag e.content → e.whole ≡ encode e.tag e.content → time_of e ≡ Ok t → IsTime e.whole t
 unfolding time_of
@@ -40,12 +42,12 @@ time_of-found e t fits encoded read = by_tag (eqb e.tag 0x17) (eqb e.tag 0x18) r
   where
     by_tag : (b c : Bool) → eqb e.tag 0x17 ≡ b → eqb e.tag 0x18 ≡ c → time_by b c e ≡ Ok t → IsTime e.whole t
     by_tag true c u g r =
-        let m = bind_ok (located e.at (utc_value e.content)) (λ m. Ok (record { form = Utc; moment = m })) t r in
+        let m = bind_ok (at_element e.at (utc_value e.content)) (λ m. Ok (record { form = Utc; moment = m })) t r in
         let value = utc_in-found e.content m.0 (moment-ok (utc_in e.content) e.at m.0 m.1) in
         subst (λ (x : Time). IsTime e.whole x) (ok_is {A = Time} {E = Fault} (record { form = Utc; moment = m.0 }) t m.2) (at_tag 0x17 IsUtc e m.0 (eqb-true e.tag 0x17 u) fits encoded value)
     by_tag false true u g r =
-        let m = bind_ok (located e.at (general_value e.content)) (λ m. Ok (record { form = General; moment = m })) t r in
-        let value = general_in-found e.content m.0 (moment-ok (general_in e.content) e.at m.0 m.1) in
+        let m = bind_ok (at_element e.at (general_value e.content)) (λ m. Ok (record { form = General; moment = m })) t r in
+        let value = general_in-found e.content m.0 (moment-ok (generalized_time_in e.content) e.at m.0 m.1) in
         subst (λ (x : Time). IsTime e.whole x) (ok_is {A = Time} {E = Fault} (record { form = General; moment = m.0 }) t m.2) (at_tag 0x18 IsGeneral e m.0 (eqb-true e.tag 0x18 g) fits encoded value)
     by_tag false false u g r = absurd cc
 

@@ -3,7 +3,7 @@
 use Rattle.std.specs.Prelude.{ℕ, not, List, is_some}
 use Rattle.ts_der.specs.declared.fault.DerFault.TheVariants.{TimeForm}
 use Rattle.ts_der.specs.Element.{Place}
-use Rattle.ts_time.specs.Reading.{utc_in, general_in}
+use Rattle.ts_time.specs.Reading.{utc_in, generalized_time_in}
 use Rattle.ts_shape.specs.declared.fault.CertRule.TheVariants.{Der}
 use Rattle.ts_shape.specs.Shape.{Row, any, optional, nothing, ◌then◌, one_rule, primitive, sequence}
 use Rattle.ts_shape.specs.Shape.{◌or◌}
@@ -15,7 +15,8 @@ utc_time = primitive 0x17 (one_rule (Der TimeForm) (λ c. not (is_some (utc_in c
 
 -- GeneralizedTime in its one form (4.1.2.5.2)
 abbrev pub generalized_time : Row
-generalized_time = primitive 0x18 (one_rule (Der TimeForm) (λ c. not (is_some (general_in c))))
+generalized_time = primitive 0x18
+    (one_rule (Der TimeForm) (λ c. not (is_some (generalized_time_in c))))
 
 -- Time ::= CHOICE { utcTime UTCTime, generalTime GeneralizedTime } (4.1.2.5)
 abbrev pub time : Row

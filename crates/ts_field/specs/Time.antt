@@ -4,7 +4,7 @@ use Rattle.ts_der.specs.declared.fault.DerFault.TheVariants.{WrongTag}
 use Rattle.ts_der.specs.declared.fault.Fault.{Fault}
 use Rattle.ts_der.specs.Answer.{◌>>=◌}
 use Rattle.ts_der.specs.Element.{Place, Tlv}
-use Rattle.ts_der.specs.Reading.{fault_at, located, next_at}
+use Rattle.ts_der.specs.Reading.{fault_at, at_element, next_at}
 use Rattle.ts_time.specs.Reading.{utc_value, general_value}
 use Rattle.ts_time.specs.Text.{IsUtc, IsGeneral}
 use Rattle.ts_shape.specs.Fields.{Within}
@@ -27,9 +27,9 @@ IsTime octets t = IsTimeIn t.form octets t.moment
 -- Time ::= CHOICE { utcTime UTCTime, generalTime GeneralizedTime }
 unfoldable pub time_of : Tlv → Result Time Fault
 time_of e =
-    if e.tag == 0x17 then (located e.at (utc_value e.content) >>= λ m. Ok
+    if e.tag == 0x17 then (at_element e.at (utc_value e.content) >>= λ m. Ok
     (record { form = Utc; moment = m }))
-    else (if e.tag == 0x18 then (located e.at (general_value e.content) >>= λ m. Ok
+    else (if e.tag == 0x18 then (at_element e.at (general_value e.content) >>= λ m. Ok
     (record { form = General; moment = m }))
     else Err (fault_at e.at WrongTag))
 

@@ -22,8 +22,8 @@ event_of numbers octets =
 
 -- A file that was opened and is not yet synced: a read gives these octets, and a crash may leave
 -- any image.
-abbrev pub unsynced : List ℕ → State
-unsynced octets = record {
+abbrev pub unsynced_state : List ℕ → State
+unsynced_state octets = record {
   read = octets;
   may_leave = λ c. Unit {0};
   moment = 0;
@@ -38,8 +38,8 @@ torn_images may_leave at octets c = (d : List ℕ) × may_leave d × Torn at (le
 -- The disk after these events, the last of which is first. A write tears its range until a sync,
 -- also one that failed; only one that did not fail is read.
 abbrev pub disk_after : List Event → State
-disk_after [] = unsynced []
-disk_after (opened octets ∷ older) = unsynced octets
+disk_after [] = unsynced_state []
+disk_after (opened octets ∷ older) = unsynced_state octets
 disk_after (wrote at octets ∷ older) =
     next (disk_after older) (written_within (disk_after older).read at octets)
     (torn_images (disk_after older).may_leave at octets)

@@ -5,12 +5,12 @@ use Rattle.ts_disk.specs.Disk.{State, IsDisk, Call, Same}
 use Rattle.ts_disk.specs.Past.{next}
 use Rattle.ts_disk.specs.Replays.{IsPast, seen, torn_if, torn_nothing}
 use Rattle.ts_disk.specs.Crash.{written_within}
-use Rattle.ts_file.specs.History.{Event, opened, wrote, failed, synced, unsynced, torn_images}
+use Rattle.ts_file.specs.History.{Event, opened, wrote, failed, synced, unsynced_state, torn_images}
 use Rattle.ts_file.specs.History.{disk_after}
 use Rattle.ts_file.specs.FileDisk.{state_of}
 use Rattle.ts_file.specs.declared.file.FileDisk.{FileDisk}
 
-unsynced_past : (octets : List ℕ) → IsPast (unsynced octets)
+unsynced_past : (octets : List ℕ) → IsPast (unsynced_state octets)
 unsynced_past octets = record {
   read_is_left = tt;
   counts_now = λ t c le left. tt;

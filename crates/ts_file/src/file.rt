@@ -2,7 +2,7 @@
 
 ghost use Rattle.std.specs.Prelude.{◌≡◌, ◌<◌, ◌≤◌, ◌-◌, ◌^◌, ◌⊎◌, length, Err, IfErr, IfOk, OnOk};
 ghost use Rattle.std.specs.Option.{ForSome};
-ghost use Rattle.ts_disk.specs.Disk.{Call, Same, Torn, written, HasCause};
+ghost use Rattle.ts_disk.specs.Disk.{Call, Same, Torn, overwrite, HasCause};
 ghost use Rattle.ts_disk.specs.declared.fault.DiskFault.TheVariants.{Failed};
 ghost use Rattle.ts_file.specs.History.{disk_after};
 
@@ -34,7 +34,7 @@ pub struct FileDisk<F> {
 }
 
 /// A failure of the device, which is counted.
-fn counted(failures: &mut u64) -> DiskFault
+fn count_failure(failures: &mut u64) -> DiskFault
     ensures fault { result ≡ Failed }
     ensures rises { failures.old ≤ failures.new }
     ensures counts { 0 < failures.new }
@@ -86,29 +86,29 @@ impl<F: Read + Write + Seek + OpenFile + Drop> Disk for FileDisk<F> {
     {
         let _alloc = alloc;
         if self.failures > 0 {
-            return Err(counted(&mut self.failures));
+            return Err(count_failure(&mut self.failures));
         }
         match self.unread.take() {
             Some(octets) => Ok(octets),
-            None => Err(counted(&mut self.failures)),
+            None => Err(count_failure(&mut self.failures)),
         }
     }
 
     fn write_at(&mut self, at: usize, octets: &[u8]) -> Result<(), DiskFault>
         requires { at ≤ length (state_of self.old).read }
         ensures written { OnOk result ((state_of self.new).read
-            ≡ written (state_of self.old).read at octets.now) }
+            ≡ overwrite (state_of self.old).read at octets.now) }
         ensures call { Call (Torn at (length octets.now)) (state_of self.old) (state_of self.new) }
         ensures fault { IfErr result (λ fault. fault ≡ Failed) }
         ensures cause { HasCause (state_of self.old) (state_of self.new) result }
         ensures stays { 0 < (state_of self.old).failures → result ≡ Err Failed }
     {
         if self.failures > 0 || octets.len() > MAX_LEN - at {
-            return Err(counted(&mut self.failures));
+            return Err(count_failure(&mut self.failures));
         }
         self.unread = None;
         if self.file.write_at(at, octets).is_err() {
-            return Err(counted(&mut self.failures));
+            return Err(count_failure(&mut self.failures));
         }
         self.size = self.size.max(at + octets.len());
         Ok(())
@@ -123,11 +123,11 @@ impl<F: Read + Write + Seek + OpenFile + Drop> Disk for FileDisk<F> {
         ensures stays { 0 < (state_of self.old).failures → result ≡ Err Failed }
     {
         if self.failures > 0 {
-            return Err(counted(&mut self.failures));
+            return Err(count_failure(&mut self.failures));
         }
         match self.file.sync() {
             Ok(()) => Ok(()),
-            Err(_) => Err(counted(&mut self.failures)),
+            Err(_) => Err(count_failure(&mut self.failures)),
         }
     }
 

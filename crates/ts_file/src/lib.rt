@@ -9,7 +9,7 @@
 //! ```
 //!
 //! - `FileDisk::new`, `open`, `create`: `whole`: no failure is counted.
-//! - `FileDisk` as a `Disk`: those of a disk: `octets`, `written`, `durable`, `call`, `cause`;
+//! - `FileDisk` as a `Disk`: those of a disk: `octets`, `overwrite`, `durable`, `call`, `cause`;
 //!   `stays`: a disk that has failed once fails each later call.
 //!
 //! The octets are read when the file is opened, and a read gives them, once and before anything is

@@ -1,4 +1,3 @@
-mod Encodings
 mod Saying
 mod Dropping
 mod Naming

@@ -2,9 +2,9 @@
 use Rattle.std.proofs.Common.{◌≡◌, ◌∙◌, refl, sym, ap, subst, ℕ, ◌<◌, ◌≤◌, false, true, not, Bool, List, [], ◌∷◌, Option, Some, None, MatchOption, map, codes, string_bytes, get_or, length, arith}
 use Rattle.std.specs.Str.{bytes_eq}
 use Rattle.std.proofs.lemmas.Slice.Eq.{bytes_eq-Decides}
-use Rattle.ts_form.specs.Pairs.{Named, pair_in}
+use Rattle.ts_form.specs.Pairs.{NamedValue, pair_in}
 use Rattle.ts_form.specs.Rows.{NameId}
-use Rattle.ts_form.specs.Values.{IsHex}
+use Rattle.ts_literal.specs.Literals.{IsHex}
 use Rattle.ts_form.specs.declared.pair.Pair.{Pair}
 
 pub one_pair : (pairs : List Pair) (x : Pair) → 1 ≤ length pairs → length pairs < 2 → x ≡ get_or pairs 0 x → pairs ≡ x ∷ []
@@ -12,18 +12,18 @@ one_pair [] x least below is = absurd (omega (arith, least))
 one_pair (y ∷ []) x least below is = ap (λ (p : Pair). p ∷ []) (sym is)
 one_pair (y ∷ z ∷ pairs) x least below is = absurd (omega (arith, below))
 
-abbrev value_of : List Named → List ℕ
+abbrev value_of : List NamedValue → List ℕ
 value_of [] = []
 value_of (pair ∷ pairs) = pair.1
 
-abbrev named_id : List ℕ → List Named
+abbrev named_id : List ℕ → List NamedValue
 named_id text = (codes "id", text) ∷ []
 
 one_value : (text other : List ℕ) → named_id text ≡ named_id other → text ≡ other
 one_value text other same = ap value_of same
 
 -- what is found is the id of the text
-found_id : (pairs : List Named) (text : List ℕ) (id : Option (List ℕ)) → pairs ≡ (codes "id", text) ∷ []
+found_id : (pairs : List NamedValue) (text : List ℕ) (id : Option (List ℕ)) → pairs ≡ (codes "id", text) ∷ []
     → MatchOption id ((octets : List ℕ) → ¬ (IsHex 16 text octets)) (IsHex 16 text) → MatchOption id ((octets : List ℕ) → ¬ (NameId pairs octets)) (NameId pairs)
 found_id pairs text None one is = λ octets named.
     let same = one_value named.0 text (sym named.1 ∙ one) in

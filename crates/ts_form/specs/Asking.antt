@@ -2,12 +2,12 @@
 use Rattle.std.specs.Prelude.{ℕ, ℤ, List, [], reverse, Option, Some, None}
 use Rattle.std.specs.declared.vec.Vec.{Vec}
 use Rattle.std.specs.declared.alloc.Global.{Global}
-use Rattle.ts_question.specs.Question.{Asked}
+use Rattle.ts_question.specs.Question.{StoreQuestion}
 use Rattle.ts_question.specs.declared.terms.Terms.{Terms}
 use Rattle.ts_question.specs.declared.question.Target.{Target}
 use Rattle.ts_question.specs.declared.question.Target.TheVariants as target
 use Rattle.ts_form.specs.Fields.{octets_of}
-use Rattle.ts_form.specs.declared.wanted.Wanted.{Wanted}
+use Rattle.ts_form.specs.declared.wanted.WantedFields.{WantedFields}
 
 -- the moment that is given, or now
 abbrev pub moment_in : Option ℤ → ℤ → ℤ
@@ -15,7 +15,7 @@ moment_in None now = now
 moment_in (Some moment) now = moment
 
 -- what is asked beside the certificates, without initial subtrees
-abbrev pub terms_in : Wanted → ℤ → Terms
+abbrev pub terms_in : WantedFields → ℤ → Terms
 terms_in wanted now = record {
   moment = moment_in wanted.at now;
   flags = wanted.flags;
@@ -32,6 +32,6 @@ abbrev pub target_in : Option (List ℕ) → List (Vec ℕ Global) → Target
 target_in None chain = target.Search (octets_of chain)
 target_in (Some anchor) chain = target.Chain anchor (octets_of (reverse chain))
 
-abbrev pub asked_in : Wanted → ℤ → Asked
+abbrev pub asked_in : WantedFields → ℤ → StoreQuestion
 asked_in wanted now = record
     { terms = terms_in wanted now; target = target_in wanted.anchor wanted.chain.items }

@@ -9,14 +9,15 @@ use Rattle.ts_question.specs.declared.terms.Flags.{Flags}
 use Rattle.ts_der.specs.Octets.{AreOctets}
 use Rattle.ts_time.specs.Text.{IsGeneral}
 use Rattle.ts_form.specs.Names.{field_named}
-use Rattle.ts_form.specs.Pairs.{Named}
-use Rattle.ts_form.specs.Values.{AreCertificates, AreWritten, IsDotted, IsHex, IsPosition}
+use Rattle.ts_form.specs.Pairs.{NamedValue}
+use Rattle.ts_literal.specs.Literals.{IsHex}
+use Rattle.ts_form.specs.Values.{AreCertificates, AreWritten, IsDotted, IsPosition}
 use Rattle.ts_form.specs.declared.field.Field.{Field}
 use Rattle.ts_form.specs.declared.field.Field.TheVariants.{Chain, At, K, Hard, Deltas, Explicit}
 use Rattle.ts_form.specs.declared.field.Field.TheVariants.{NoMap, NoAny, Policies, Purpose, Anchor}
 use Rattle.ts_form.specs.declared.fault.FormFault.{FormFault}
 use Rattle.ts_form.specs.declared.fault.FormFault.TheVariants as faults
-use Rattle.ts_form.specs.declared.wanted.Wanted.{Wanted}
+use Rattle.ts_form.specs.declared.wanted.WantedFields.{WantedFields}
 
 -- ---- flags
 
@@ -57,7 +58,7 @@ says text =
     else (if is_one_of (codes "0" ∷ codes "false" ∷ []) text then Some false else None)
 
 -- a text sets a flag, or leaves it
-abbrev pub SetsFlag : Field → List ℕ → Wanted → Wanted → Type 0
+abbrev pub SetsFlag : Field → List ℕ → WantedFields → WantedFields → Type 0
 SetsFlag field text old new =
     ((says text ≡ Some true) × (new ≡ record old { flags = with_flag field old.flags }))
     ⊎ ((says text ≡ Some false) × (new ≡ old))
@@ -69,7 +70,7 @@ abbrev pub octets_of : List (Vec ℕ Global) → List (List ℕ)
 octets_of certificates = map (λ c. c.items) certificates
 
 -- nothing but certificates has changed
-pub record IsSameBut (old new : Wanted) : Type 0 where
+pub record IsSameBut (old new : WantedFields) : Type 0 where
   pub at_is : new.at ≡ old.at
   pub k_is : new.k ≡ old.k
   pub flags_are : new.flags ≡ old.flags
@@ -78,12 +79,12 @@ pub record IsSameBut (old new : Wanted) : Type 0 where
   pub anchor_is : new.anchor ≡ old.anchor
 
 -- these certificates are behind those that were there
-pub record Appends (certificates : List (List ℕ)) (old new : Wanted) : Type 0 where
+pub record Appends (certificates : List (List ℕ)) (old new : WantedFields) : Type 0 where
   pub same : IsSameBut old new
   pub behind : octets_of new.chain.items ≡ octets_of old.chain.items ++ certificates
 
 -- what a text says of a field; of some fields, if it is the first
-abbrev pub Adds : Field → List ℕ → Wanted → Wanted → Type 0
+abbrev pub Adds : Field → List ℕ → WantedFields → WantedFields → Type 0
 Adds Chain text old new = (certificates : List (List ℕ)) × AreWritten text certificates
     × Appends certificates old new
 Adds At text old new = (moment : ℤ) × IsGeneral text moment × (old.at ≡ None)
@@ -100,7 +101,7 @@ Adds Anchor text old new = (anchor : List ℕ) × IsHex 32 text anchor × (old.a
 Adds field text old new = SetsFlag field text old new
 
 -- a pair names a field, and says this of it; an empty text says nothing, but sets a flag
-pub record Sets (pair : Named) (old new : Wanted) : Type 0 where
+pub record Sets (pair : NamedValue) (old new : WantedFields) : Type 0 where
   pub field : Field
   pub named : field_named pair.0 ≡ Some field
   pub adds : ((pair.1 ≡ []) × (is_flag field ≡ false) × (new ≡ old)) ⊎ Adds field pair.1 old new
@@ -118,7 +119,7 @@ IsNoValue Anchor text = (anchor : List ℕ) → ¬ (IsHex 32 text anchor)
 IsNoValue field text = says text ≡ None
 
 -- a field that is given once has a value
-abbrev pub IsGiven : Field → Wanted → Type 0
+abbrev pub IsGiven : Field → WantedFields → Type 0
 IsGiven At wanted = wanted.at ≢ None
 IsGiven K wanted = wanted.k ≢ None
 IsGiven Purpose wanted = wanted.purpose ≢ None
@@ -126,37 +127,37 @@ IsGiven Anchor wanted = wanted.anchor ≢ None
 IsGiven field wanted = ⊥
 
 -- why a text is refused that is given a field
-abbrev pub IsRefusedIn : Field → List ℕ → Wanted → FormFault → Type 0
+abbrev pub IsRefusedIn : Field → List ℕ → WantedFields → FormFault → Type 0
 IsRefusedIn field text old faults.Memory = Unit {0}
 IsRefusedIn field text old (faults.Value other) = (other ≡ field) × IsNoValue field text
 IsRefusedIn field text old (faults.Twice other) = (other ≡ field) × IsGiven field old
 IsRefusedIn field text old fault = ⊥
 
 -- a pair names a field, and is refused there
-pub record IsWrong (pair : Named) (old : Wanted) (fault : FormFault) : Type 0 where
+pub record IsWrong (pair : NamedValue) (old : WantedFields) (fault : FormFault) : Type 0 where
   pub field : Field
   pub named : field_named pair.0 ≡ Some field
   pub refused : IsRefusedIn field pair.1 old fault
 
 -- why a pair is refused: memory, no field has its name, or what it says of one
-abbrev pub IsRefused : Named → Wanted → FormFault → Type 0
+abbrev pub IsRefused : NamedValue → WantedFields → FormFault → Type 0
 IsRefused pair old faults.Memory = Unit {0}
 IsRefused pair old faults.Name = field_named pair.0 ≡ None
 IsRefused pair old fault = IsWrong pair old fault
 
 -- ---- pairs, one after another
-abbrev pub SetsAll : List Named → Wanted → Wanted → Type 0
+abbrev pub SetsAll : List NamedValue → WantedFields → WantedFields → Type 0
 SetsAll [] old new = new ≡ old
-SetsAll (pair ∷ pairs) old new = (mid : Wanted) × Sets pair old mid × SetsAll pairs mid new
+SetsAll (pair ∷ pairs) old new = (mid : WantedFields) × Sets pair old mid × SetsAll pairs mid new
 
 -- the first pair that is refused
-abbrev pub IsRefusedInAll : List Named → Wanted → FormFault → Type 0
+abbrev pub IsRefusedInAll : List NamedValue → WantedFields → FormFault → Type 0
 IsRefusedInAll [] old fault = ⊥
 IsRefusedInAll (pair ∷ pairs) old fault = IsRefused pair old fault
-    ⊎ ((mid : Wanted) × Sets pair old mid × IsRefusedInAll pairs mid fault)
+    ⊎ ((mid : WantedFields) × Sets pair old mid × IsRefusedInAll pairs mid fault)
 
 -- the certificates of octets are behind those that were there
-abbrev pub AddsCertificates : List ℕ → Wanted → Wanted → Type 0
+abbrev pub AddsCertificates : List ℕ → WantedFields → WantedFields → Type 0
 AddsCertificates octets old new = (certificates : List (List ℕ))
     × AreCertificates octets certificates × Appends certificates old new
 
@@ -168,7 +169,7 @@ AreRefused octets (faults.Value Chain) =
 AreRefused octets fault = ⊥
 
 -- nothing is given
-pub record IsNothing (wanted : Wanted) : Type 0 where
+pub record IsNothing (wanted : WantedFields) : Type 0 where
   pub no_moment : wanted.at ≡ None
   pub no_k : wanted.k ≡ None
   pub flags_none : wanted.flags ≡ no_flags

@@ -3,6 +3,6 @@ pub mod Names
 pub mod Said
 pub mod Values
 pub mod Fields
-pub mod Refusals
 pub mod Rows
 pub mod Asking
+pub mod inside

@@ -2,8 +2,9 @@
 use Rattle.std.specs.Prelude.{◌≡◌, ◌≢◌, ◌⊎◌, ℕ, List, [], ◌∷◌, Option, Some, None, codes}
 use Rattle.std.specs.Prelude.{if◌then◌else◌}
 use Rattle.std.specs.Str.{bytes_eq}
-use Rattle.ts_form.specs.Pairs.{Named}
-use Rattle.ts_form.specs.Values.{IsHex, IsNumber, IsPosition}
+use Rattle.ts_form.specs.Pairs.{NamedValue}
+use Rattle.ts_literal.specs.Literals.{IsHex, IsNumber}
+use Rattle.ts_form.specs.Values.{IsPosition}
 use Rattle.ts_form.specs.declared.field.Field.{Field}
 use Rattle.ts_form.specs.declared.field.Field.TheVariants.{K, From}
 use Rattle.ts_form.specs.declared.fault.FormFault.{FormFault}
@@ -25,12 +26,12 @@ Adds From text old new = (from : ℕ) × IsNumber text from × (old.from ≡ Non
 Adds other text old new = ⊥
 
 -- a pair names a field, and says this of it; an empty text says nothing
-pub record Sets (pair : Named) (old new : RowsWanted) : Type 0 where
+pub record Sets (pair : NamedValue) (old new : RowsWanted) : Type 0 where
   pub field : Field
   pub named : field_named pair.0 ≡ Some field
   pub adds : ((pair.1 ≡ []) × (new ≡ old)) ⊎ Adds field pair.1 old new
 
-abbrev pub SetsAll : List Named → RowsWanted → RowsWanted → Type 0
+abbrev pub SetsAll : List NamedValue → RowsWanted → RowsWanted → Type 0
 SetsAll [] old new = new ≡ old
 SetsAll (pair ∷ pairs) old new = (mid : RowsWanted) × Sets pair old mid × SetsAll pairs mid new
 
@@ -44,18 +45,18 @@ IsRefusedIn From text old (faults.Twice From) = old.from ≢ None
 IsRefusedIn field text old fault = ⊥
 
 -- a pair names a field, and is refused there
-pub record IsWrong (pair : Named) (old : RowsWanted) (fault : FormFault) : Type 0 where
+pub record IsWrong (pair : NamedValue) (old : RowsWanted) (fault : FormFault) : Type 0 where
   pub field : Field
   pub named : field_named pair.0 ≡ Some field
   pub refused : IsRefusedIn field pair.1 old fault
 
 -- why a pair is refused: no field of a page has its name, or what it says of one
-abbrev pub IsRefused : Named → RowsWanted → FormFault → Type 0
+abbrev pub IsRefused : NamedValue → RowsWanted → FormFault → Type 0
 IsRefused pair old faults.Name = field_named pair.0 ≡ None
 IsRefused pair old fault = IsWrong pair old fault
 
 -- the first pair that is refused
-abbrev pub IsRefusedInAll : List Named → RowsWanted → FormFault → Type 0
+abbrev pub IsRefusedInAll : List NamedValue → RowsWanted → FormFault → Type 0
 IsRefusedInAll [] old fault = ⊥
 IsRefusedInAll (pair ∷ pairs) old fault = IsRefused pair old fault
     ⊎ ((mid : RowsWanted) × Sets pair old mid × IsRefusedInAll pairs mid fault)
@@ -65,5 +66,5 @@ abbrev pub no_rows : RowsWanted
 no_rows = record { k = None; from = None }
 
 -- the pairs name one command, by the digits of its id
-abbrev pub NameId : List Named → List ℕ → Type 0
+abbrev pub NameId : List NamedValue → List ℕ → Type 0
 NameId pairs id = (text : List ℕ) × (pairs ≡ (codes "id", text) ∷ []) × IsHex 16 text id

@@ -4,31 +4,31 @@ use Rattle.std.specs.Fmt.{decimal}
 use Rattle.serde_json.specs.Data.{Data, null, boolean, number, unsigned, string, array, object}
 use Rattle.serde_json.specs.Data.{Items, no_items, item, Members, no_members, member}
 use Rattle.serde_json.specs.Read.{read}
-use Rattle.ts_form.specs.Pairs.{Named}
+use Rattle.ts_form.specs.Pairs.{NamedValue}
 use Rattle.ts_form.specs.declared.fault.FormFault.{FormFault}
 use Rattle.ts_form.specs.declared.fault.FormFault.TheVariants as faults
 
 -- what two say, if both say something
-abbrev pub both : Option (List Named) → Option (List Named) → Option (List Named)
+abbrev pub both : Option (List NamedValue) → Option (List NamedValue) → Option (List NamedValue)
 both (Some first) (Some others) = Some (first ++ others)
 both (Some first) None = None
 both None others = None
 
-abbrev pub one : List ℕ → List ℕ → Option (List Named)
+abbrev pub one : List ℕ → List ℕ → Option (List NamedValue)
 one name text = Some ((name, text) ∷ [])
 
 -- an item of a list: a text
-abbrev pub text_said : List ℕ → Data → Option (List Named)
+abbrev pub text_said : List ℕ → Data → Option (List NamedValue)
 text_said name (string text) = one name text
 text_said name other = None
 
 -- a pair for each item of a list
-unfoldable pub items_said : List ℕ → Items → Option (List Named)
+unfoldable pub items_said : List ℕ → Items → Option (List NamedValue)
 items_said name no_items = Some []
 items_said name (item first items) = both (text_said name first) (items_said name items)
 
 -- a text, a flag, a whole number in decimal, a list of texts; `null` says nothing
-unfoldable pub value_said : List ℕ → Data → Option (List Named)
+unfoldable pub value_said : List ℕ → Data → Option (List NamedValue)
 value_said name null = Some []
 value_said name (boolean true) = one name (codes "true")
 value_said name (boolean false) = one name (codes "false")
@@ -38,28 +38,29 @@ value_said name (array items) = items_said name items
 value_said name other = None
 
 -- what the members say, one after another
-unfoldable pub members_said : Members → Option (List Named)
+unfoldable pub members_said : Members → Option (List NamedValue)
 members_said no_members = Some []
 members_said (member name value members) = both (value_said name value) (members_said members)
 
-abbrev pub object_said : Data → Option (List Named)
+abbrev pub object_said : Data → Option (List NamedValue)
 object_said (object members) = members_said members
 object_said other = None
 
 -- the text is of an object that says these pairs
-pub record IsSaid (text : List ℕ) (pairs : List Named) : Type 0 where
+pub record IsSaid (text : List ℕ) (pairs : List NamedValue) : Type 0 where
   pub value : Data
   pub is_read : read text ≡ Some value
   pub said : object_said value ≡ Some pairs
 
 -- what is said stands behind what was there
-pub record Said (said : Option (List Named)) (before after : List Named) : Type 0 where
-  pub more : List Named
-  pub is : said ≡ Some more
-  pub behind : after ≡ before ++ more
+pub record AppendsPairs (said : Option (List NamedValue)) (before after : List NamedValue) : Type 0
+  where
+    pub more : List NamedValue
+    pub is : said ≡ Some more
+    pub behind : after ≡ before ++ more
 
 -- memory was refused, or this says nothing
-abbrev pub IsUnsaid : Option (List Named) → FormFault → Type 0
+abbrev pub IsUnsaid : Option (List NamedValue) → FormFault → Type 0
 IsUnsaid said faults.Memory = Unit {0}
 IsUnsaid said faults.Json = said ≡ None
 IsUnsaid said fault = ⊥
@@ -67,5 +68,5 @@ IsUnsaid said fault = ⊥
 -- memory was refused, or the text is of no object that says pairs
 abbrev pub IsUnsaidText : List ℕ → FormFault → Type 0
 IsUnsaidText text faults.Memory = Unit {0}
-IsUnsaidText text faults.Json = (pairs : List Named) → ¬ (IsSaid text pairs)
+IsUnsaidText text faults.Json = (pairs : List NamedValue) → ¬ (IsSaid text pairs)
 IsUnsaidText text fault = ⊥

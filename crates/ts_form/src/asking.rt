@@ -4,7 +4,7 @@ ghost use Rattle.std.specs.Prelude.{◌≡◌, false, MatchResult};
 ghost use Rattle.ts_question.specs.Question.{is_within};
 ghost use Rattle.ts_form.specs.Asking.{asked_in, terms_in};
 
-use crate::wanted::Wanted;
+use crate::wanted::WantedFields;
 use std::alloc::Global;
 use ts_question::{OctetStrings, Oids, OutOfLimits, Question, Terms};
 
@@ -13,7 +13,7 @@ use ts_question::{OctetStrings, Oids, OutOfLimits, Question, Terms};
 /// # Errors
 ///
 /// `OutOfLimits` exactly where that question is outside its limits.
-pub fn question_of(alloc: Global, wanted: Wanted, now: i64) -> Result<Question, OutOfLimits>
+pub fn question_of(alloc: Global, wanted: WantedFields, now: i64) -> Result<Question, OutOfLimits>
     ensures { MatchResult result (λ question. question ≡ asked_in wanted now)
         (λ _. is_within (asked_in wanted now) ≡ false) }
 {

@@ -3,7 +3,7 @@
 ghost use Rattle.std.specs.Prelude.{◌≡◌, ◌++◌, ◌∷◌, [], Some, IfOk, IfErr, OnOk, map};
 ghost use Rattle.serde_json.specs.View.{items_view, members_view, view};
 ghost use Rattle.ts_form.specs.Pairs.{pair_in};
-ghost use Rattle.ts_form.specs.Said.{IsSaid, Said, items_said, members_said, object_said};
+ghost use Rattle.ts_form.specs.Said.{IsSaid, AppendsPairs, items_said, members_said, object_said};
 ghost use Rattle.ts_form.specs.Said.{IsUnsaid, IsUnsaidText, value_said};
 
 use crate::fault::FormFault;
@@ -29,7 +29,7 @@ fn push_items(
     name: &str,
     items: &[Value],
 ) -> Result<(), FormFault>
-    ensures said { OnOk result (Said (items_said name.now (items_view items.now))
+    ensures said { OnOk result (AppendsPairs (items_said name.now (items_view items.now))
         (map pair_in pairs.old.items) (map pair_in pairs.new.items)) }
     ensures unsaid { IfErr result (IsUnsaid (items_said name.now (items_view items.now))) }
 {
@@ -49,7 +49,7 @@ fn push_member(
     name: &str,
     value: &Value,
 ) -> Result<(), FormFault>
-    ensures said { OnOk result (Said (value_said name.now (view value.now))
+    ensures said { OnOk result (AppendsPairs (value_said name.now (view value.now))
         (map pair_in pairs.old.items) (map pair_in pairs.new.items)) }
     ensures unsaid { IfErr result (IsUnsaid (value_said name.now (view value.now))) }
 {

@@ -19,11 +19,11 @@
 //! - [`form_pairs`]: the pairs of `application/x-www-form-urlencoded` octets, decoded, in order.
 //! - [`json_pairs`]: what a JSON object says (`specs/Said`): a pair for each text, number, `true`
 //!   and `false`, and of a list one for each text in it; nothing for `null`.
-//! - [`Wanted::add`]: a pair sets the field that it names (`specs/Fields`), or is refused, for a
-//!   fault that is so: no field has the name, the text is no value of it, it is given twice; or
-//!   memory.
-//! - [`Wanted::add_all`]: one after another; the fault is that of the first that is refused.
-//! - [`Wanted::add_certificates`]: the certificates of a text of PEM, or one, in DER; refused
+//! - [`WantedFields::add`]: a pair sets the field that it names (`specs/Fields`), or is refused,
+//!   for a fault that is so: no field has the name, the text is no value of it, it is given twice;
+//!   or memory.
+//! - [`WantedFields::add_all`]: one after another; the fault is that of the first that is refused.
+//! - [`WantedFields::add_certificates`]: the certificates of a text of PEM, or one, in DER; refused
 //!   exactly where they are a text with a fault.
 //! - [`question_of`]: the question that the fields say, or that it is outside its limits
 //!   (`specs/Asking`): a chain under the anchor that is named, or else a search.
@@ -51,4 +51,4 @@ pub use form::form_pairs;
 pub use json::json_pairs;
 pub use pair::Pair;
 pub use rows::{RowsWanted, command_id_of};
-pub use wanted::Wanted;
+pub use wanted::WantedFields;

@@ -9,7 +9,8 @@ ghost use Rattle.ts_form.specs.declared.field.Field.TheVariants as fields;
 use crate::fault::FormFault;
 use crate::field::Field;
 use crate::pair::Pair;
-use crate::values::{number_of, position_of, short_id_of};
+use ts_literal::{id_of, number_in, number_of};
+use ts_question::MAX_POSITION;
 
 /// Which rows are asked for, as far as it is given.
 #[derive(Clone, Copy, Debug, PartialEq, Eq)]
@@ -40,7 +41,7 @@ impl RowsWanted {
         if self.k.is_some() {
             return Err(FormFault::Twice(Field::K));
         }
-        let Some(k) = position_of(text) else {
+        let Some(k) = number_in(text, 0, MAX_POSITION) else {
             return Err(FormFault::Value(Field::K));
         };
         self.k = Some(k);
@@ -117,5 +118,5 @@ pub fn command_id_of(pairs: &[Pair]) -> Option<[u8; 16]>
     if pair.name.as_str() != "id" {
         return None;
     }
-    short_id_of(pair.value.as_str())
+    id_of(pair.value.as_str())
 }

@@ -8,7 +8,7 @@ ghost use Rattle.ts_form.specs.Fields.{IsRefused, IsRefusedIn, IsRefusedInAll, S
 ghost use Rattle.ts_form.specs.Fields.{SetsFlag};
 ghost use Rattle.ts_form.specs.Pairs.{pair_in};
 ghost use Rattle.ts_form.specs.Values.{AreCertificates, AreWritten, IsDotted};
-ghost use Rattle.ts_form.specs.Refusals.{IsNoBase64, IsNoFlag, IsNoOid, IsRefusedText};
+ghost use Rattle.ts_form.specs.inside.Refusals.{IsNoBase64, IsNoFlag, IsNoOid, IsRefusedText};
 ghost use Rattle.ts_form.specs.declared.fault.FormFault.TheVariants.{Memory};
 ghost use Rattle.ts_form.specs.declared.field.Field.TheVariants as fields;
 
@@ -16,17 +16,18 @@ use crate::fault::FormFault;
 use crate::field::Field;
 use crate::flags::{is_flag, no_flags, with_flag};
 use crate::pair::Pair;
-use crate::values::{digest_of, flag_of, moment_of, position_of};
+use crate::values::{flag_of, moment_of};
 use base64::DecodeAllocError;
 use base64::engine::general_purpose::STANDARD;
 use std::alloc::Global;
 use ts_der::{Oid, OidTextError};
+use ts_literal::{digest_of, number_in};
 use ts_pem::{PemFault, is_pem, read_certificates};
-use ts_question::Flags;
+use ts_question::{Flags, MAX_POSITION};
 
 /// What pairs ask for, as far as it is given.
 #[derive(Debug, Drop)]
-pub struct Wanted {
+pub struct WantedFields {
     /// The moment of the validation, in seconds from 1970-01-01T00:00:00Z.
     pub at: Option<i64>,
     /// After how many commands the store is looked at.
@@ -94,12 +95,12 @@ fn written_in(alloc: Global, text: &str) -> Result<Vec<Vec<u8>>, FormFault>
     Ok(found)
 }
 
-impl Wanted {
+impl WantedFields {
     /// Nothing is given.
-    pub fn new(alloc: Global) -> Wanted
+    pub fn new(alloc: Global) -> WantedFields
         ensures { IsNothing result }
     {
-        Wanted {
+        WantedFields {
             at: None,
             k: None,
             flags: no_flags(),
@@ -143,7 +144,7 @@ impl Wanted {
         if self.k.is_some() {
             return Err(FormFault::Twice(Field::K));
         }
-        let Some(k) = position_of(text) else {
+        let Some(k) = number_in(text, 0, MAX_POSITION) else {
             return Err(FormFault::Value(Field::K));
         };
         self.k = Some(k);

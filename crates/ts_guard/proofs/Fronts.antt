@@ -5,11 +5,11 @@ use Rattle.std.proofs.Common.{ap, inl, inr, arith, append_assoc, length-drop, le
 use Rattle.std.specs.Int.{to_be_bytes, w32}
 use Rattle.std.proofs.lemmas.List.{take-append-drop, length-take-le, drop-drop}
 use Rattle.std.proofs.Math.Seq.{drop-cons}
-use Rattle.ts_guard.specs.Sealed.{record_of, sealed, tag}
+use Rattle.ts_guard.specs.Sealed.{record_of, sealed_record, tag}
 use Rattle.ts_guard.specs.Reading.{IsWrong}
-use Rattle.ts_guard.specs.Parts.{IsWhole, IsWrongHead}
-use Rattle.ts_guard.specs.Hello.{Headed}
-use Rattle.ts_guard.specs.First.{IsFirst, IsNone}
+use Rattle.ts_guard.specs.inside.Parts.{IsWhole, IsWrongHead}
+use Rattle.ts_guard.specs.Hello.{HasHead}
+use Rattle.ts_guard.specs.inside.First.{IsFirst, IsNone}
 use Rattle.ts_guard.specs.declared.fault.GuardFault.TheVariants.{Memory, Length, Version, Tag}
 use Rattle.ts_guard.specs.declared.fault.GuardFault.TheVariants.{Number}
 use Rattle.ts_guard.specs.declared.fault.GuardFault.{GuardFault}
@@ -114,7 +114,7 @@ pub first_record : (key context : List ℕ) (number : ℕ) (held given content :
     → IsWhole held n → given ≡ slice_range held 5 37
     → given ≡ tag key context number (slice_range held 37 (37 + n))
     → content ≡ slice_range held 37 (37 + n) → IsFirst key context number held content
-unfolding sealed
+unfolding sealed_record
 first_record key context number held given content n whole is same here =
     let long : length content ≡ n = ap length here ∙ length_content held n whole.enough in
     let parts : held ≡ record_of 3 (slice_range held 5 37) (slice_range held 37 (37 + n)) ++ drop
@@ -152,7 +152,7 @@ false_true h = cc
 pub headed : (octets : List ℕ) (n version kind : ℕ) → n < 2 ^ 32 → 6 ≤ length octets
     → octets ≡ to_be_bytes w32 n ++ drop 4 octets → get_or octets 4 0 ≡ version
     → get_or octets 5 0 ≡ kind
-    → Headed octets n version kind
+    → HasHead octets n version kind
 headed octets n version kind small enough front v k =
     let four : drop 4 octets ≡ version ∷ drop 5 octets = drop-cons octets 4 0 (omega arith)
     ∙ ap (λ x. x ∷ drop 5 octets) v in

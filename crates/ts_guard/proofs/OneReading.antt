@@ -2,7 +2,7 @@
 use Rattle.std.proofs.Common.{◌≡◌, ◌+◌, ◌∙◌, ℕ, List, [], ◌∷◌, ◌++◌, Option, length, refl, sym, ap}
 use Rattle.std.proofs.Common.{subst, arith, append_assoc}
 use Rattle.std.specs.List.{AllByRecursion}
-use Rattle.ts_guard.specs.Sealed.{IsContent, sealed, stream, tag}
+use Rattle.ts_guard.specs.Sealed.{IsContent, sealed_record, stream, tag}
 use Rattle.ts_guard.specs.Reading.{Ends, Splits}
 use Rattle.ts_guard.specs.declared.fault.GuardFault.{GuardFault}
 use Rattle.ts_guard.proofs.OneRecord.{after_begins, begins, one_end, same_record, sealed_or_end}
@@ -24,10 +24,10 @@ record Reads (key context : List ℕ) (number : ℕ) (octets : List ℕ) (conten
 -- the record at the front, and what follows it
 front : (key context : List ℕ) (number : ℕ) (octets content rest : List ℕ)
     (contents : List (List ℕ)) → octets ≡ stream key context number (content ∷ contents) ++ rest
-    → octets ≡ sealed key context number content ++
+    → octets ≡ sealed_record key context number content ++
     (stream key context (number + 1) contents ++ rest)
 front key context number octets content rest contents is = is
-    ∙ append_assoc (sealed key context number content)
+    ∙ append_assoc (sealed_record key context number content)
     (stream key context (number + 1) contents) rest
 
 behind : (key context : List ℕ) (number : ℕ) (octets content rest : List ℕ)

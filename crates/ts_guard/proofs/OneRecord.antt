@@ -6,7 +6,7 @@ use Rattle.std.specs.Int.{from_be_bytes, to_be_bytes, w32}
 use Rattle.std.proofs.lemmas.List.{take_at, drop_at}
 use Rattle.std.proofs.lemmas.Nat.{from_be_bytes-to_be_bytes_4}
 use Rattle.ts_hmac.proofs.Lengths.{length-hmac_sha256}
-use Rattle.ts_guard.specs.Sealed.{IsContent, sealed, tag, vouched}
+use Rattle.ts_guard.specs.Sealed.{IsContent, sealed_record, tag, vouched_text}
 use Rattle.ts_guard.specs.Reading.{Begins, Ends, IsPartial, IsWrong}
 use Rattle.ts_guard.specs.declared.fault.GuardFault.{GuardFault}
 use Rattle.ts_guard.specs.declared.fault.GuardFault.TheVariants.{Memory, Length, Version, Tag}
@@ -78,17 +78,17 @@ same_record octets version other given another content more a b =
 length-tag : (key context : List ℕ) (number : ℕ) (content : List ℕ)
     → length (tag key context number content) ≡ 32
 unfolding tag
-length-tag key context number content = length-hmac_sha256 key (vouched context number content)
+length-tag key context number content = length-hmac_sha256 key (vouched_text context number content)
 
 pub begins : (key context : List ℕ) (number : ℕ) (octets content rest : List ℕ) → IsContent content
-    → octets ≡ sealed key context number content ++ rest
+    → octets ≡ sealed_record key context number content ++ rest
     → Begins octets 3 (tag key context number content) content
-unfolding sealed
+unfolding sealed_record
 begins key context number octets content rest fits is =
     record { after = rest; fits = fits; long = length-tag key context number content; is = is }
 
 pub after_begins : (key context : List ℕ) (number : ℕ) (octets content rest : List ℕ)
-    → (fits : IsContent content) → (is : octets ≡ sealed key context number content ++ rest)
+    → (fits : IsContent content) → (is : octets ≡ sealed_record key context number content ++ rest)
     → (begins key context number octets content rest fits is).after ≡ rest
 unfolding begins
 after_begins key context number octets content rest fits is = refl
@@ -142,7 +142,7 @@ partial_length key context number octets (inr p) w =
 
 pub sealed_or_end : (key context : List ℕ) (number : ℕ) (octets content rest : List ℕ)
     (fault : Option GuardFault) → IsContent content
-    → octets ≡ sealed key context number content ++ rest
+    → octets ≡ sealed_record key context number content ++ rest
     → Ends key context number fault octets → ⊥
 sealed_or_end key context number octets content rest None fits is e =
     whole_partial octets 3 (tag key context number content) content

@@ -4,7 +4,7 @@ use Rattle.std.proofs.Common.{subst, arith, append_assoc}
 use Rattle.std.specs.List.{AllByRecursion}
 use Rattle.std.specs.Int.{to_be_bytes, w32}
 use Rattle.std.proofs.lemmas.List.{append-nil}
-use Rattle.ts_guard.specs.Sealed.{IsContent, record_of, sealed, stream}
+use Rattle.ts_guard.specs.Sealed.{IsContent, record_of, sealed_record, stream}
 use Rattle.ts_guard.specs.Reading.{Begins, IsWrong}
 use Rattle.ts_guard.specs.Opening.{HasOpened, IsFault}
 use Rattle.ts_guard.specs.Streams.{Came, Event, Opened, Refused, Steps, Waited, came_in}
@@ -43,7 +43,7 @@ front key context (Came piece ∷ events) a b steps =
     ∙ ap (λ n. stream key context n (contents_in events) ++ b.held) one.number)
 front key context (Opened content ∷ events) a b steps =
     let one = steps.1 in
-    opened_one a.held (sealed key context a.number content) steps.0.held (came_in events)
+    opened_one a.held (sealed_record key context a.number content) steps.0.held (came_in events)
     (stream key context (a.number + 1) (contents_in events)) b.held one.held
     (front key context events steps.0 b steps.2
     ∙ ap (λ n. stream key context n (contents_in events) ++ b.held) one.number)

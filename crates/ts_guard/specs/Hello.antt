@@ -14,7 +14,7 @@ abbrev pub greeting_octets : ℕ → List ℕ → List ℕ
 greeting_octets key_id nonce = to_be_bytes w32 38 ++ 3 ∷ 0x41 ∷ (to_be_bytes w32 key_id ++ nonce)
 
 -- octets begin with a length, a version and a kind
-pub record Headed (octets : List ℕ) (size version kind : ℕ) : Type 0 where
+pub record HasHead (octets : List ℕ) (size version kind : ℕ) : Type 0 where
   pub after : List ℕ
   pub small : size < 2 ^ 32
   pub is : octets ≡ to_be_bytes w32 size ++ version ∷ kind ∷ after
@@ -22,13 +22,13 @@ pub record Headed (octets : List ℕ) (size version kind : ℕ) : Type 0 where
 -- less than a whole hello of this length and kind
 abbrev pub IsPartHello : ℕ → ℕ → List ℕ → Type 0
 IsPartHello size kind octets = (length octets < 6)
-    ⊎ (Headed octets size 3 kind × (length octets < 4 + size))
+    ⊎ (HasHead octets size 3 kind × (length octets < 4 + size))
 
 -- what is wrong in the place of a hello of this length and kind, once six octets are there: first
 -- another version, then another length, then
 -- another kind
 abbrev pub IsHelloFault : ℕ → ℕ → List ℕ → HelloFault → Type 0
-IsHelloFault size kind octets Version = (n version found : ℕ) × Headed octets n version found
+IsHelloFault size kind octets Version = (n version found : ℕ) × HasHead octets n version found
     × (version ≢ 3)
-IsHelloFault size kind octets Length = (n found : ℕ) × Headed octets n 3 found × (n ≢ size)
-IsHelloFault size kind octets Kind = (found : ℕ) × Headed octets size 3 found × (found ≢ kind)
+IsHelloFault size kind octets Length = (n found : ℕ) × HasHead octets n 3 found × (n ≢ size)
+IsHelloFault size kind octets Kind = (found : ℕ) × HasHead octets size 3 found × (found ≢ kind)

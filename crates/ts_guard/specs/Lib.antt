@@ -1,10 +1,9 @@
 pub mod Session
 pub mod Sealed
 pub mod Reading
-pub mod Parts
-pub mod First
 pub mod Opening
 pub mod Sealing
 pub mod Streams
 pub mod Hello
 pub mod Channels
+pub mod inside

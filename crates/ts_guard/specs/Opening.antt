@@ -4,7 +4,7 @@ use Rattle.std.specs.Prelude.{Err}
 use Rattle.std.specs.declared.vec.Vec.{Vec}
 use Rattle.std.specs.declared.alloc.Global.{Global}
 use Rattle.ts_hmac.specs.Holding.{Holds}
-use Rattle.ts_guard.specs.Sealed.{IsContent, sealed}
+use Rattle.ts_guard.specs.Sealed.{IsContent, sealed_record}
 use Rattle.ts_guard.specs.Reading.{IsPartial, IsWrong}
 use Rattle.ts_guard.specs.declared.fault.GuardFault.{GuardFault}
 use Rattle.ts_guard.specs.declared.fault.GuardFault.TheVariants.{Memory}
@@ -32,7 +32,7 @@ pub record HasOpened (key context : List ℕ) (old : Opener) (content : List ℕ
     (new : Opener) : Type 0 where
   pub below : old.number + 1 < 2 ^ 64
   pub fits : IsContent content
-  pub held : old.held ≡ sealed key context old.number content ++ new.held
+  pub held : old.held ≡ sealed_record key context old.number content ++ new.held
   pub number : new.number ≡ old.number + 1
   pub start : new.start ≡ old.start
 

@@ -1,7 +1,7 @@
 -- What a sealer does.
 use Rattle.std.specs.Prelude.{◌≡◌, ◌⊎◌, ◌<◌, ◌+◌, ◌^◌, ℕ, List, ◌++◌, length, Result, Ok, Err}
 use Rattle.ts_hmac.specs.Holding.{Holds}
-use Rattle.ts_guard.specs.Sealed.{IsContent, sealed}
+use Rattle.ts_guard.specs.Sealed.{IsContent, sealed_record}
 use Rattle.ts_guard.specs.declared.fault.GuardFault.{GuardFault}
 use Rattle.ts_guard.specs.declared.fault.GuardFault.TheVariants.{Memory, Length}
 use Rattle.ts_guard.specs.declared.fault.GuardFault.TheVariants.{Number}
@@ -21,7 +21,7 @@ pub record HasSealed (key context : List ℕ) (old : Sealer) (content before : L
     (after : List ℕ) : Type 0 where
   pub below : old.number + 1 < 2 ^ 64
   pub fits : IsContent content
-  pub written : after ≡ before ++ sealed key context old.number content
+  pub written : after ≡ before ++ sealed_record key context old.number content
   pub number : new.number ≡ old.number + 1
   pub start : new.start ≡ old.start
 

@@ -7,7 +7,7 @@ use Rattle.ts_guard.specs.declared.opener.Opener.{Opener}
 use Rattle.ts_guard.specs.declared.session.Direction.{Direction}
 use Rattle.ts_guard.specs.declared.session.Session.{Session}
 use Rattle.ts_guard.specs.Session.{Fits, context}
-use Rattle.ts_guard.specs.Sealed.{vouched}
+use Rattle.ts_guard.specs.Sealed.{vouched_text}
 
 pub data Event : Type 0 where
   Came : (piece : List ℕ) → Event  -- these octets came
@@ -47,7 +47,7 @@ pub record Seal : Type 0 where
 
 -- what the tag of a seal vouches for
 abbrev pub text_of : Seal → List ℕ
-text_of seal = vouched (context seal.session seal.direction) seal.number seal.content
+text_of seal = vouched_text (context seal.session seal.direction) seal.number seal.content
 
 -- of everything that was sealed with a key, by anybody, on any connection
 abbrev pub AreSeals : List Seal → Type 0
@@ -60,7 +60,7 @@ abbrev pub NoneForged : List Seal → Session → Direction → List (List ℕ) 
 NoneForged seals session direction contents = (n : ℕ) (content : List ℕ)
     → slice_get contents n ≡ Some content
     → (i : ℕ) × (seal : Seal) × (slice_get seals i ≡ Some seal)
-    × (text_of seal ≡ vouched (context session direction) n content)
+    × (text_of seal ≡ vouched_text (context session direction) n content)
 
 -- on this connection in this direction these contents were sealed, each with its number, and
 -- nothing else

@@ -4,7 +4,7 @@ ghost use Rattle.std.specs.Prelude.{◌≡◌, ◌+◌, ◌++◌, [], ℕ, List,
 ghost use Rattle.std.specs.Prelude.{IfSome};
 ghost use Rattle.ts_guard.specs.Session.{context};
 ghost use Rattle.ts_guard.specs.Opening.{HasCome, IsNewOpener, IsOpenerFor, Opens};
-ghost use Rattle.ts_guard.specs.First.{First, HasRoom};
+ghost use Rattle.ts_guard.specs.inside.First.{First, HasRoom};
 
 use crate::fault::GuardFault;
 use crate::record::{HEAD, content_length, tag_of};

@@ -6,7 +6,7 @@ ghost use Rattle.std.specs.Int.{to_be_bytes, w32};
 ghost use Rattle.ts_hmac.specs.Holding.{Holds};
 ghost use Rattle.ts_guard.specs.Sealed.{tag};
 ghost use Rattle.ts_guard.specs.Reading.{IsPartial};
-ghost use Rattle.ts_guard.specs.Parts.{IsWhole, IsWrongHead};
+ghost use Rattle.ts_guard.specs.inside.Parts.{IsWhole, IsWrongHead};
 
 use crate::fault::GuardFault;
 use ts_hmac::Hmac;

@@ -1,5 +1,3 @@
 pub mod Contents
-pub mod Taken
-pub mod Places
 pub mod Outcome
-pub mod History
+pub mod inside

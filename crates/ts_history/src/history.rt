@@ -4,14 +4,14 @@ ghost use Rattle.std.specs.Prelude.{◌≡◌, ◌<◌, ◌≤◌, ◌++◌, ◌
 ghost use Rattle.ts_store.specs.Ids.{first_of};
 ghost use Rattle.ts_store.specs.Store.{store_after};
 ghost use Rattle.ts_history.specs.Contents.{contents_of, no_contents};
-ghost use Rattle.ts_history.specs.History.{change_if, replayed};
+ghost use Rattle.ts_history.specs.inside.History.{change_if, replay};
 ghost use Rattle.ts_history.specs.Outcome.{outcome_after};
 
 use crate::snapshot::Snapshot;
-use crate::taken::{Change, TakenCommand, taken_of};
+use crate::taken::{TableChange, TakenCommand, taken_of};
 use std::alloc::{AllocError, Global};
 use std::marker::Model;
-use ts_store::{Command, First, Outcome, Store, Tables};
+use ts_store::{Command, FirstCommand, Outcome, Store, Tables};
 
 /// The commands that a store took, what each changed, and the store after them. Contracts see the
 /// list of the commands.
@@ -25,7 +25,7 @@ pub struct History {
 impl Model for History {
     ghost use Rattle.std.specs.Prelude.{List};
     ghost use Rattle.ts_store.specs.declared.command.Command.{Command as Stated};
-    ghost use Rattle.ts_history.specs.History.{IsHistory, commands_in};
+    ghost use Rattle.ts_history.specs.inside.History.{IsHistory, commands_in};
 
     ghost Value = { List Stated };
 
@@ -35,12 +35,12 @@ impl Model for History {
 }
 
 /// What a command with this outcome changed: this where it was applied, else nothing.
-fn change_made(outcome: Outcome, change: Change) -> Change
+fn change_made(outcome: Outcome, change: TableChange) -> TableChange
     ensures { result ≡ change_if outcome change }
 {
     match outcome {
         Outcome::Applied => change,
-        Outcome::Repeated(_) | Outcome::Refused(_) => Change::Nothing,
+        Outcome::Repeated(_) | Outcome::Refused(_) => TableChange::Nothing,
     }
 }
 
@@ -87,7 +87,7 @@ impl History {
     }
 
     /// The first command that had an id: its position, and what it came to.
-    pub fn first(&self, id: &[u8; 16]) -> Option<First>
+    pub fn first(&self, id: &[u8; 16]) -> Option<FirstCommand>
         ensures { result ≡ first_of id.now (store_after self.now).ids }
     {
         self.store.first(id)
@@ -120,7 +120,7 @@ impl History {
 
 /// The tables after these commands.
 fn replay(alloc: Global, taken: &[TakenCommand]) -> Result<Snapshot<'_>, AllocError>
-    ensures { IfOk result (λ snapshot. snapshot ≡ replayed no_contents taken.now) }
+    ensures { IfOk result (λ snapshot. snapshot ≡ replay no_contents taken.now) }
 {
     let mut snapshot = Snapshot::empty(alloc);
     for one in taken {

@@ -3,10 +3,10 @@
 ghost use Rattle.std.specs.Prelude.{◌≡◌, ◌++◌, ◌∷◌, [], List, ℕ, map, IfOk, OnOk};
 ghost use Rattle.std.specs.List.{remove};
 ghost use Rattle.ts_history.specs.Contents.{anchor_in, contents_of, no_contents};
-ghost use Rattle.ts_history.specs.Taken.{changed, with_anchor, with_crl_at, with_last};
-ghost use Rattle.ts_history.specs.Taken.{with_purposes_in, with_purposes_of};
+ghost use Rattle.ts_history.specs.inside.Taken.{apply_change, with_anchor, with_crl_at, with_last};
+ghost use Rattle.ts_history.specs.inside.Taken.{with_purposes_in, with_purposes_of};
 
-use crate::taken::{Change, KeptCommand, Kind, TakenCommand};
+use crate::taken::{KeptCommand, Kind, TableChange, TakenCommand};
 use std::alloc::{AllocError, Global};
 use std::marker::Model;
 use ts_cert::OwnedCert;
@@ -179,31 +179,31 @@ impl<'a> Snapshot<'a> {
 
     /// Makes what a command changed.
     pub(crate) fn change(&mut self, taken: &'a TakenCommand) -> Result<(), AllocError>
-        ensures { OnOk result (self.new ≡ changed taken.now.change taken.now.kept self.old) }
+        ensures { OnOk result (self.new ≡ apply_change taken.now.change taken.now.kept self.old) }
     {
         let kept = &taken.kept;
         match taken.change {
-            Change::Nothing => {}
-            Change::AddsAnchor => add_anchor(&mut self.anchors, kept)?,
-            Change::RemovesAnchor { at } => remove_anchor(&mut self.anchors, at),
-            Change::SetsPurposes { at } => set_purposes_in(&mut self.anchors, at, kept),
-            Change::AddsCrl {
+            TableChange::Nothing => {}
+            TableChange::AddsAnchor => add_anchor(&mut self.anchors, kept)?,
+            TableChange::RemovesAnchor { at } => remove_anchor(&mut self.anchors, at),
+            TableChange::SetsPurposes { at } => set_purposes_in(&mut self.anchors, at, kept),
+            TableChange::AddsCrl {
                 kind: Kind::Complete,
             } => add_crl(&mut self.complete, kept)?,
-            Change::AddsCrl { kind: Kind::Delta } => add_crl(&mut self.deltas, kept)?,
-            Change::PutsCrl {
+            TableChange::AddsCrl { kind: Kind::Delta } => add_crl(&mut self.deltas, kept)?,
+            TableChange::PutsCrl {
                 kind: Kind::Complete,
                 at,
             } => put_crl(&mut self.complete, at, kept),
-            Change::PutsCrl {
+            TableChange::PutsCrl {
                 kind: Kind::Delta,
                 at,
             } => put_crl(&mut self.deltas, at, kept),
-            Change::RemovesCrl {
+            TableChange::RemovesCrl {
                 kind: Kind::Complete,
                 at,
             } => remove_crl(&mut self.complete, at),
-            Change::RemovesCrl {
+            TableChange::RemovesCrl {
                 kind: Kind::Delta,
                 at,
             } => remove_crl(&mut self.deltas, at),

@@ -4,7 +4,7 @@ ghost use Rattle.std.specs.Prelude.{◌≡◌, Ok, IfOk};
 ghost use Rattle.ts_store.specs.Tables.{Tables as Stated, change as change_by};
 ghost use Rattle.ts_store.specs.declared.command.Command.TheVariants.{AddAnchor, LoadCrl};
 ghost use Rattle.ts_history.specs.Contents.{contents_of};
-ghost use Rattle.ts_history.specs.Taken.{command_in, changed};
+ghost use Rattle.ts_history.specs.inside.Taken.{command_in, apply_change};
 ghost use Rattle.ts_history.specs.declared.taken.KeptCommand.TheVariants.{Other};
 
 use crate::placing::{crl_change, crl_removal, removal, setting};
@@ -36,7 +36,7 @@ pub(crate) enum Kind {
 
 /// What a command changed, by its place in a table.
 #[derive(Clone, Copy, Debug, PartialEq, Eq)]
-pub(crate) enum Change {
+pub(crate) enum TableChange {
     /// None: the command was refused or repeated, or asks for nothing.
     Nothing,
     /// The command's anchor is the last one.
@@ -57,7 +57,7 @@ pub(crate) enum Change {
 #[derive(Drop)]
 pub(crate) struct TakenCommand {
     pub kept: KeptCommand,
-    pub change: Change,
+    pub change: TableChange,
 }
 
 /// A command that adds an anchor, and what it changes where it is applied.
@@ -65,7 +65,7 @@ fn anchor_taken(id: [u8; 16], certificate: &CertificateOctets) -> Result<TakenCo
     ensures same { IfOk result (λ taken. command_in taken.kept ≡ AddAnchor id certificate.now) }
     ensures done { IfOk result (λ taken. (old new : Stated)
         → change_by (AddAnchor id certificate.now) old ≡ Ok new
-        → changed taken.change taken.kept (contents_of old) ≡ contents_of new) }
+        → apply_change taken.change taken.kept (contents_of old) ≡ contents_of new) }
 {
     let octets = certificate.octets();
     match OwnedCert::of(octets) {
@@ -78,14 +78,14 @@ fn anchor_taken(id: [u8; 16], certificate: &CertificateOctets) -> Result<TakenCo
                     purposes: Purposes::any(),
                 },
             },
-            change: Change::AddsAnchor,
+            change: TableChange::AddsAnchor,
         }),
         Err(OwnedCertFault::Memory) => Err(AllocError),
         Err(OwnedCertFault::Unreadable(_)) => {
             let certificate = certificate.share()?;
             Ok(TakenCommand {
                 kept: KeptCommand::Other(Command::AddAnchor { id, certificate }),
-                change: Change::Nothing,
+                change: TableChange::Nothing,
             })
         }
     }
@@ -101,7 +101,7 @@ fn crl_taken(
     ensures same { IfOk result (λ taken. command_in taken.kept ≡ LoadCrl id crl.now) }
     ensures done { IfOk result (λ taken. (new : Stated)
         → change_by (LoadCrl id crl.now) tables.now ≡ Ok new
-        → changed taken.change taken.kept (contents_of tables.now) ≡ contents_of new) }
+        → apply_change taken.change taken.kept (contents_of tables.now) ≡ contents_of new) }
 {
     let octets = crl.octets();
     match OwnedCrl::of(octets) {
@@ -121,14 +121,18 @@ fn crl_taken(
             let crl = crl.share()?;
             Ok(TakenCommand {
                 kept: KeptCommand::Other(Command::LoadCrl { id, crl }),
-                change: Change::Nothing,
+                change: TableChange::Nothing,
             })
         }
     }
 }
 
 /// A copy of another command, and what it changes.
-fn other_taken(alloc: Global, command: &Command, change: Change) -> Result<TakenCommand, AllocError>
+fn other_taken(
+    alloc: Global,
+    command: &Command,
+    change: TableChange,
+) -> Result<TakenCommand, AllocError>
     ensures { IfOk result (λ taken. taken ≡ record { kept = Other command.now; change = change }) }
 {
     Ok(TakenCommand {
@@ -145,7 +149,7 @@ pub(crate) fn taken_of(
 ) -> Result<TakenCommand, AllocError>
     ensures same { IfOk result (λ taken. command_in taken.kept ≡ command.now) }
     ensures done { IfOk result (λ taken. (new : Stated) → change_by command.now tables.now ≡ Ok new
-        → changed taken.change taken.kept (contents_of tables.now) ≡ contents_of new) }
+        → apply_change taken.change taken.kept (contents_of tables.now) ≡ contents_of new) }
 {
     match command {
         Command::AddAnchor { id, certificate } => anchor_taken(*id, certificate),
@@ -157,6 +161,6 @@ pub(crate) fn taken_of(
             other_taken(alloc, command, setting(tables.anchors(), anchor))
         }
         Command::DropCrl { crl, .. } => other_taken(alloc, command, crl_removal(tables, crl)),
-        Command::Noop { .. } => other_taken(alloc, command, Change::Nothing),
+        Command::Noop { .. } => other_taken(alloc, command, TableChange::Nothing),
     }
 }

@@ -12,15 +12,15 @@ abbrev pub block_key : List ℕ → List ℕ
 block_key key = short_key key ++ replicate (64 - length (short_key key)) 0
 
 -- each octet of a block with the same pad (RFC 2104, 2, steps 2 and 5)
-abbrev pub xored : ℕ → List ℕ → List ℕ
-xored pad block = map (λ octet. bit_xor octet pad) block
+abbrev pub xor_with : ℕ → List ℕ → List ℕ
+xor_with pad block = map (λ octet. bit_xor octet pad) block
 
 -- K XOR ipad and K XOR opad, with the octets 36 and 5c (RFC 2104, 2)
 abbrev pub inner_key : List ℕ → List ℕ
-inner_key key = xored 0x36 (block_key key)
+inner_key key = xor_with 0x36 (block_key key)
 
 abbrev pub outer_key : List ℕ → List ℕ
-outer_key key = xored 0x5c (block_key key)
+outer_key key = xor_with 0x5c (block_key key)
 
 -- H(K XOR opad, H(K XOR ipad, text)) (RFC 2104, 2)
 unfoldable pub hmac_sha256 : List ℕ → List ℕ → List ℕ

@@ -4,7 +4,7 @@ ghost use Rattle.std.specs.Prelude.{◌≡◌, ◌++◌, [], ℕ, List, ⊤};
 ghost use Rattle.ts_hmac.specs.Hmac.{hmac_sha256};
 ghost use Rattle.ts_hmac.specs.Holding.{Holds};
 
-use crate::key::{block_key, xored};
+use crate::key::{block_key, xor_with};
 use sha2::{Digest, Sha256};
 use std::alloc::AllocError;
 
@@ -30,8 +30,8 @@ impl Hmac {
     {
         let block = block_key(key);
         Hmac {
-            inner: Sha256::new_with_prefix(&xored(&block, INNER_PAD)),
-            outer: Sha256::new_with_prefix(&xored(&block, OUTER_PAD)),
+            inner: Sha256::new_with_prefix(&xor_with(&block, INNER_PAD)),
+            outer: Sha256::new_with_prefix(&xor_with(&block, OUTER_PAD)),
         }
     }
 

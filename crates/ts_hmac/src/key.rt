@@ -1,7 +1,7 @@
 //! A key, made as long as a block.
 
 ghost use Rattle.std.specs.Prelude.{◌≡◌, ◌≤◌, ◌-◌, ◌++◌, length, replicate};
-ghost use Rattle.ts_hmac.specs.Hmac.{block_key, xored};
+ghost use Rattle.ts_hmac.specs.Hmac.{block_key, xor_with};
 
 use sha2::{Digest, Sha256};
 
@@ -9,7 +9,7 @@ use sha2::{Digest, Sha256};
 pub(crate) const BLOCK: usize = 64;
 
 /// A short key, with zeros after it.
-fn padded(key: &[u8]) -> [u8; BLOCK]
+fn pad_key(key: &[u8]) -> [u8; BLOCK]
     requires { length key.now ≤ 64 }
     ensures { result ≡ key.now ++ replicate (64 - length key.now) 0 }
 {
@@ -24,15 +24,15 @@ pub(crate) fn block_key(key: &[u8]) -> [u8; BLOCK]
     ensures { result ≡ block_key key.now }
 {
     if key.len() <= BLOCK {
-        padded(key)
+        pad_key(key)
     } else {
-        padded(&Sha256::digest(key))
+        pad_key(&Sha256::digest(key))
     }
 }
 
 /// Each octet of a block with the same pad.
-pub(crate) fn xored(block: &[u8; BLOCK], pad: u8) -> [u8; BLOCK]
-    ensures { result ≡ xored pad block.now }
+pub(crate) fn xor_with(block: &[u8; BLOCK], pad: u8) -> [u8; BLOCK]
+    ensures { result ≡ xor_with pad block.now }
 {
     let mut out = [0; BLOCK];
     for i in 0..BLOCK {

@@ -1,5 +1,6 @@
 -- The host that is asked for, and the certificates that are for it (RFC 9525 6.1, 6.2).
-use Rattle.std.specs.Prelude.{◌≡◌, ◌⊎◌, ◌-◌, ℕ, ◌==◌, ◌||◌, ◌&&◌, nat_lt, nat_le, not, Bool, List, []}
+use Rattle.std.specs.Prelude.{◌≡◌, ◌⊎◌, ◌-◌, ℕ, ◌==◌, ◌||◌, ◌&&◌, nat_lt, nat_le, not, Bool, List}
+use Rattle.std.specs.Prelude.{[]}
 use Rattle.std.specs.Prelude.{◌∷◌, length, take, slice_index, if◌then◌else◌, Option, Some, None}
 use Rattle.std.specs.Prelude.{Result, Ok, Err}
 use Rattle.std.specs.List.{slice_split, list_all, list_any}

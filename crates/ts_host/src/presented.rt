@@ -6,7 +6,7 @@ ghost use Rattle.ts_ext.specs.GeneralNames.{general_names_of};
 ghost use Rattle.ts_ext.specs.NameViews.{alternatives_in};
 ghost use Rattle.ts_ext.specs.declared.known.Known.TheVariants.{SubjectAltName};
 ghost use Rattle.ts_cert.specs.CertView.{cert_in};
-ghost use Rattle.ts_cert.specs.Stated.{stated};
+ghost use Rattle.ts_cert.specs.Stated.{stated_value};
 ghost use Rattle.ts_host.specs.Hosts.{IsFor, IsNamed, SomeOf, octets_in};
 
 use crate::host::Host;
@@ -53,7 +53,7 @@ fn has_name(names: AlternativeNames<'_>, host: Host<'_>) -> bool
 /// Its subject does not count.
 pub fn is_for(cert: &Cert<'_>, host: Host<'_>) -> bool
     ensures { IsTrue result ↔ IsFor host.entry
-        (stated SubjectAltName general_names_of (cert_in cert.now).tbsCertificate) }
+        (stated_value SubjectAltName general_names_of (cert_in cert.now).tbsCertificate) }
 {
     match cert.subject_alt_name() {
         Some(names) => has_name(names, host),

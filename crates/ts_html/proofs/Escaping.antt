@@ -1,7 +1,7 @@
 -- What stands for a text has no markup.
 use Rattle.std.proofs.Common.{◌≡◌, ◌∙◌, refl, ap, sym, ℕ, Bool, true, false, List, [], ◌∷◌, ◌++◌, inl, inr, ◌==◌, ◌||◌, codes}
 use Rattle.std.specs.List.{flat_map, AllByRecursion}
-use Rattle.ts_html.specs.Escaped.{escaped, escaped_octet, is_special, IsEscaped, IsPiece}
+use Rattle.ts_html.specs.Escaped.{escape, escaped_octet, is_special, IsEscaped, IsPiece}
 
 pieces_of : List ℕ → List (List ℕ)
 pieces_of [] = []
@@ -21,7 +21,7 @@ by_tests octet false false false false false a b c d e =
 is_piece : (octet : ℕ) → IsPiece (escaped_octet octet)
 is_piece octet = by_tests octet (octet == 38) (octet == 60) (octet == 62) (octet == 34) (octet == 39) refl refl refl refl refl
 
-joined : (text : List ℕ) → escaped text ≡ flat_map (λ piece. piece) (pieces_of text)
+joined : (text : List ℕ) → escape text ≡ flat_map (λ piece. piece) (pieces_of text)
 unfolding pieces_of
 joined [] = refl
 joined (octet ∷ text) = ap (λ rest. escaped_octet octet ++ rest) (joined text)
@@ -31,5 +31,5 @@ unfolding pieces_of
 each [] = tt
 each (octet ∷ text) = (is_piece octet, each text)
 
-pub is_escaped : (text : List ℕ) → IsEscaped (escaped text)
+pub is_escaped : (text : List ℕ) → IsEscaped (escape text)
 is_escaped text = record { pieces = pieces_of text; is = joined text; each = each text }

@@ -16,8 +16,8 @@ escaped_octet octet =
     else (if octet == 34 then codes "&quot;"
     else (if octet == 39 then codes "&#39;" else octet ∷ []))))
 
-abbrev pub escaped : List ℕ → List ℕ
-escaped text = flat_map escaped_octet text
+abbrev pub escape : List ℕ → List ℕ
+escape text = flat_map escaped_octet text
 
 -- an octet that is none of the five, or the entity of one of them
 abbrev pub IsPiece : List ℕ → Type 0

@@ -2,7 +2,7 @@
 
 ghost use Rattle.std.specs.Prelude.{◌≡◌, ◌++◌, ◌∷◌, [], ℕ, List, OnOk, string_bytes};
 ghost use Rattle.std.specs.List.{flat_map};
-ghost use Rattle.ts_html.specs.Escaped.{IsEscaped, escaped, escaped_octet};
+ghost use Rattle.ts_html.specs.Escaped.{IsEscaped, escape, escaped_octet};
 
 use std::alloc::{AllocError, Global};
 use std::marker::Model;
@@ -36,7 +36,7 @@ fn push_escaped(octets: &mut Vec<u8>, octet: u8) -> Result<(), AllocError>
 
 /// Writes a text, escaped.
 fn push_text(octets: &mut Vec<u8>, text: &[u8]) -> Result<(), AllocError>
-    ensures { OnOk result (octets.new.items ≡ octets.old.items ++ escaped text.now) }
+    ensures { OnOk result (octets.new.items ≡ octets.old.items ++ escape text.now) }
 {
     for octet in text {
         push_escaped(octets, *octet)?;
@@ -46,7 +46,7 @@ fn push_text(octets: &mut Vec<u8>, text: &[u8]) -> Result<(), AllocError>
 
 /// What stands for a text is escaped.
 fn is_escaped()
-    ensures { (text : List ℕ) → IsEscaped (escaped text) }
+    ensures { (text : List ℕ) → IsEscaped (escape text) }
 {}
 
 impl Html {
@@ -69,8 +69,8 @@ impl Html {
 
     /// Writes a text, escaped.
     pub fn text(&mut self, text: &str) -> Result<(), AllocError>
-        ensures added { OnOk result (self.new ≡ self.old ++ escaped text.now) }
-        ensures escaped { IsEscaped (escaped text.now) }
+        ensures added { OnOk result (self.new ≡ self.old ++ escape text.now) }
+        ensures escaped { IsEscaped (escape text.now) }
     {
         is_escaped();
         push_text(&mut self.octets, text.as_bytes())

@@ -10,7 +10,7 @@
 //! - [`Html::raw`]: words of the program stand behind what was there, as they are. They are
 //!   `'static`, so that no text from elsewhere can be written so.
 //! - [`Html::text`]: `added`: the text stands behind what was there, each octet as its table says;
-//!   `escaped`: what is added is of octets that are none of `& < > " '` and of the five entities
+//!   `escape`: what is added is of octets that are none of `& < > " '` and of the five entities
 //!   for these alone (`specs/Escaped`), so that it ends neither a text nor the value of an
 //!   attribute in quotation marks, and begins no tag.
 //!

@@ -11,9 +11,15 @@ use Rattle.http1.specs.Conn.{Plan, is_read}
 use Rattle.http1.specs.Framing.{method_kind}
 use Rattle.http1.specs.Server.{IsClosed, is_head, new_server}
 use Rattle.http1.specs.ServerTrace.{Trace}
-use Rattle.ts_http.specs.Account.{AreFirst, Asked, Came, Answered, Left, Item, Invited, IsFair, IsInOrder, IsItem, Makes, Move, Moves, Read, Sent, To, Wrong, answers_in, asked_in, asked_of, came_in, left_in, octets_in, sent_in, waiting}
-use Rattle.ts_http.specs.Moves.{Answers, EndsWith, BeginsBody, FromBody, FromHead, Has, HasAnswered, HasCome, HasLeft, HasRead, HasStarved, Invites, IsNew, IsPast, IsRefused, IsSame, ReadFrom, TakesPiece, AnswersAt, came_to, ended_at, invitation, limits, manner_at, request_at}
-use Rattle.ts_http.specs.Writing.{IsWritten, answered}
+use Rattle.ts_http.specs.Account.{AreFirst, RequestContent, Came, Answered, Left, Item, Invited}
+use Rattle.ts_http.specs.Account.{IsFair, IsInOrder, IsItem, Makes, Move, Moves, Read, SentResponse}
+use Rattle.ts_http.specs.Account.{To, Wrong, answers_in, asked_in, asked_of, came_in, left_in}
+use Rattle.ts_http.specs.Account.{octets_in, sent_in, waiting}
+use Rattle.ts_http.specs.Moves.{Answers, EndsWith, BeginsBody, FromBody, FromHead, Has, HasAnswered}
+use Rattle.ts_http.specs.Moves.{HasCome, HasLeft, HasRead, HasStarved, Invites, IsNew, IsPast}
+use Rattle.ts_http.specs.Moves.{IsRefused, IsSame, ReadFrom, TakesPiece, AnswersAt, came_to}
+use Rattle.ts_http.specs.Moves.{ended_at, invitation, limits, manner_at, request_at}
+use Rattle.ts_http.specs.Writing.{IsWritten, after_writing}
 use Rattle.ts_http.specs.declared.connection.Connection.{Connection}
 use Rattle.ts_http.specs.declared.connection.Stage.{Stage}
 use Rattle.ts_http.specs.declared.connection.Stage.TheVariants as stages
@@ -39,7 +45,7 @@ OrderAt (stages.Body r) items = IsPlain items
 OrderAt (stages.Whole r) items = IsPlain items
 OrderAt (stages.Wrong status head) items = IsPlain items
 
-record IsTold (gone : List ℕ) (sent : List Sent) (items : List Item) (c : Connection) : Type 0 where
+record IsTold (gone : List ℕ) (sent : List SentResponse) (items : List Item) (c : Connection) : Type 0 where
   text : gone ++ c.out ≡ flat_map octets_in items
   each : AllByRecursion IsItem items
   order : OrderAt c.stage items
@@ -64,13 +70,13 @@ plain_invited (Invited ∷ items) x = plain_invited items x
 plain_invited (To asked sent octets ∷ items) x = plain_invited items x
 plain_invited (Wrong sent octets ∷ items) x = absurd x
 
-plain_to : (items : List Item) (asked : Asked) (sent : Sent) (octets : List ℕ) → IsPlain items → IsPlain (items ++ To asked sent octets ∷ [])
+plain_to : (items : List Item) (asked : RequestContent) (sent : SentResponse) (octets : List ℕ) → IsPlain items → IsPlain (items ++ To asked sent octets ∷ [])
 plain_to [] asked sent octets x = tt
 plain_to (Invited ∷ items) asked sent octets x = plain_to items asked sent octets x
 plain_to (To a s o ∷ items) asked sent octets x = plain_to items asked sent octets x
 plain_to (Wrong s o ∷ items) asked sent octets x = absurd x
 
-order_wrong : (items : List Item) (sent : Sent) (octets : List ℕ) → IsPlain items → IsInOrder (items ++ Wrong sent octets ∷ [])
+order_wrong : (items : List Item) (sent : SentResponse) (octets : List ℕ) → IsPlain items → IsInOrder (items ++ Wrong sent octets ∷ [])
 order_wrong [] sent octets x = refl
 order_wrong (Invited ∷ items) sent octets x = order_wrong items sent octets x
 order_wrong (To a s o ∷ items) sent octets x = order_wrong items sent octets x
@@ -83,53 +89,55 @@ all_more (i ∷ items) item x y = (x.0, all_more items item x.1 y)
 asked_invited : (items : List Item) → asked_in (items ++ Invited ∷ []) ≡ asked_in items
 asked_invited [] = refl
 asked_invited (Invited ∷ items) = asked_invited items
-asked_invited (To a s o ∷ items) = ap (λ (xs : List Asked). a ∷ xs) (asked_invited items)
+asked_invited (To a s o ∷ items) = ap (λ (xs : List RequestContent). a ∷ xs) (asked_invited items)
 asked_invited (Wrong s o ∷ items) = asked_invited items
 
-asked_to : (items : List Item) (asked : Asked) (sent : Sent) (octets : List ℕ) → asked_in (items ++ To asked sent octets ∷ []) ≡ asked_in items ++ asked ∷ []
+asked_to : (items : List Item) (asked : RequestContent) (sent : SentResponse) (octets : List ℕ) → asked_in (items ++ To asked sent octets ∷ []) ≡ asked_in items ++ asked ∷ []
 asked_to [] asked sent octets = refl
 asked_to (Invited ∷ items) asked sent octets = asked_to items asked sent octets
-asked_to (To a s o ∷ items) asked sent octets = ap (λ (xs : List Asked). a ∷ xs) (asked_to items asked sent octets)
+asked_to (To a s o ∷ items) asked sent octets = ap (λ (xs : List RequestContent). a ∷ xs) (asked_to items asked sent octets)
 asked_to (Wrong s o ∷ items) asked sent octets = asked_to items asked sent octets
 
-asked_wrong : (items : List Item) (sent : Sent) (octets : List ℕ) → asked_in (items ++ Wrong sent octets ∷ []) ≡ asked_in items
+asked_wrong : (items : List Item) (sent : SentResponse) (octets : List ℕ) → asked_in (items ++ Wrong sent octets ∷ []) ≡ asked_in items
 asked_wrong [] sent octets = refl
 asked_wrong (Invited ∷ items) sent octets = asked_wrong items sent octets
-asked_wrong (To a s o ∷ items) sent octets = ap (λ (xs : List Asked). a ∷ xs) (asked_wrong items sent octets)
+asked_wrong (To a s o ∷ items) sent octets = ap (λ (xs : List RequestContent). a ∷ xs) (asked_wrong items sent octets)
 asked_wrong (Wrong s o ∷ items) sent octets = asked_wrong items sent octets
 
 sent_invited : (items : List Item) → sent_in (items ++ Invited ∷ []) ≡ sent_in items
 sent_invited [] = refl
 sent_invited (Invited ∷ items) = sent_invited items
-sent_invited (To a s o ∷ items) = ap (λ (xs : List Sent). s ∷ xs) (sent_invited items)
-sent_invited (Wrong s o ∷ items) = ap (λ (xs : List Sent). s ∷ xs) (sent_invited items)
+sent_invited (To a s o ∷ items) = ap (λ (xs : List SentResponse). s ∷ xs) (sent_invited items)
+sent_invited (Wrong s o ∷ items) = ap (λ (xs : List SentResponse). s ∷ xs) (sent_invited items)
 
-sent_to : (items : List Item) (asked : Asked) (sent : Sent) (octets : List ℕ) → sent_in (items ++ To asked sent octets ∷ []) ≡ sent_in items ++ sent ∷ []
+sent_to : (items : List Item) (asked : RequestContent) (sent : SentResponse) (octets : List ℕ) → sent_in (items ++ To asked sent octets ∷ []) ≡ sent_in items ++ sent ∷ []
 sent_to [] asked sent octets = refl
 sent_to (Invited ∷ items) asked sent octets = sent_to items asked sent octets
-sent_to (To a s o ∷ items) asked sent octets = ap (λ (xs : List Sent). s ∷ xs) (sent_to items asked sent octets)
-sent_to (Wrong s o ∷ items) asked sent octets = ap (λ (xs : List Sent). s ∷ xs) (sent_to items asked sent octets)
+sent_to (To a s o ∷ items) asked sent octets = ap (λ (xs : List SentResponse). s ∷ xs) (sent_to items asked sent octets)
+sent_to (Wrong s o ∷ items) asked sent octets = ap (λ (xs : List SentResponse). s ∷ xs) (sent_to items asked sent octets)
 
-sent_wrong : (items : List Item) (sent : Sent) (octets : List ℕ) → sent_in (items ++ Wrong sent octets ∷ []) ≡ sent_in items ++ sent ∷ []
+sent_wrong : (items : List Item) (sent : SentResponse) (octets : List ℕ) → sent_in (items ++ Wrong sent octets ∷ []) ≡ sent_in items ++ sent ∷ []
 sent_wrong [] sent octets = refl
 sent_wrong (Invited ∷ items) sent octets = sent_wrong items sent octets
-sent_wrong (To a s o ∷ items) sent octets = ap (λ (xs : List Sent). s ∷ xs) (sent_wrong items sent octets)
-sent_wrong (Wrong s o ∷ items) sent octets = ap (λ (xs : List Sent). s ∷ xs) (sent_wrong items sent octets)
+sent_wrong (To a s o ∷ items) sent octets = ap (λ (xs : List SentResponse). s ∷ xs) (sent_wrong items sent octets)
+sent_wrong (Wrong s o ∷ items) sent octets = ap (λ (xs : List SentResponse). s ∷ xs) (sent_wrong items sent octets)
 
 -- one item more was written
-text_more : (gone out more : List ℕ) (items : List Item) (item : Item) → gone ++ out ≡ flat_map octets_in items → more ≡ octets_in item → gone ++ (out ++ more) ≡ flat_map octets_in (items ++ item ∷ [])
+text_more : (gone out more : List ℕ) (items : List Item) (item : Item) → gone
+    ++ out ≡ flat_map octets_in items → more ≡ octets_in item → gone
+    ++ (out ++ more) ≡ flat_map octets_in (items ++ item ∷ [])
 text_more gone out more items item text is =
     sym (append_assoc gone out more) ∙ (ap (λ (o : List ℕ). o ++ more) text ∙ (ap (λ (o : List ℕ). flat_map octets_in items ++ o) (is ∙ sym (append-nil (octets_in item)))
     ∙ sym (flat_map-append octets_in items (item ∷ []))))
 
 -- ---- all that is known
 
-record Known (came gone : List ℕ) (sent : List Sent) (items : List Item) (c : Connection) : Type 0 where
+record Known (came gone : List ℕ) (sent : List SentResponse) (items : List Item) (c : Connection) : Type 0 where
   told : IsTold gone sent items c
   stands : Stands came (asked_in items) c
 
 -- some items are known of
-abbrev Knows : List ℕ → List ℕ → List Sent → Connection → Type 0
+abbrev Knows : List ℕ → List ℕ → List SentResponse → Connection → Type 0
 Knows came gone sent c = (items : List Item) × Known came gone sent items c
 
 knows_new : (c : Connection) → IsNew c → Knows [] [] [] c
@@ -150,7 +158,9 @@ knows_new c new = (
 -- ---- the moves, one by one
 
 -- the piece is behind what is held; a connection that has ended drops it
-came_within : (came : List ℕ) (done : List Asked) (r : Request) (server : Server) (input piece : List ℕ) → IsWithin came done r server input → IsWithin (came ++ piece) done r server (input ++ piece)
+came_within : (came : List ℕ) (done : List RequestContent) (r : Request) (server : Server)
+    (input piece : List ℕ) → IsWithin came done r server input
+    → IsWithin (came ++ piece) done r server (input ++ piece)
 came_within came done r server input piece x = record {
   decoder = x.decoder;
   reading_is = x.reading_is;
@@ -164,7 +174,9 @@ came_within came done r server input piece x = record {
       (x.goes (piece ++ more) later rest (subst (λ (o : List ℕ). Trace server o later rest) (append_assoc input piece more) trace));
 }
 
-came_at : (stage : Stage) (came : List ℕ) (done : List Asked) (server : Server) (input piece : List ℕ) → StandsAt stage came done server input → StandsAt stage (came ++ piece) done server (came_to (ended_at stage) input piece)
+came_at : (stage : Stage) (came : List ℕ) (done : List RequestContent) (server : Server)
+    (input piece : List ℕ) → StandsAt stage came done server input
+    → StandsAt stage (came ++ piece) done server (came_to (ended_at stage) input piece)
 came_at stages.Head came done server input piece x = record { server_is = x.server_is; firsts = firsts_came done came input piece x.firsts }
 came_at (stages.Body r) came done server input piece x = came_within came done r server input piece x
 came_at (stages.Whole r) came done server input piece x = record {
@@ -176,11 +188,13 @@ came_at (stages.Whole r) came done server input piece x = record {
 came_at (stages.Wrong status head) came done server input piece x = (x.0 ++ piece, firsts_came done came x.0 piece x.1)
 came_at stages.Ended came done server input piece x = (x.0 ++ piece, firsts_came done came x.0 piece x.1)
 
-stands_to : (came : List ℕ) (done : List Asked) (b : Connection) (server : Server) (stage : Stage) (input out : List ℕ) → Has b server stage input out → StandsAt stage came done server input → Stands came done b
+stands_to : (came : List ℕ) (done : List RequestContent) (b : Connection) (server : Server)
+    (stage : Stage) (input out : List ℕ) → Has b server stage input out
+    → StandsAt stage came done server input → Stands came done b
 stands_to came done b server stage input out has x =
     subst₂ (λ (u : Server) (o : List ℕ). StandsAt b.stage came done u o) (sym has.server_is) (sym has.input_is) (subst (λ (g : Stage). StandsAt g came done server input) (sym has.stage_is) x)
 
-knows_came : (came gone : List ℕ) (sent : List Sent) (a b : Connection) (piece : List ℕ) → Knows came gone sent a → HasCome a b piece → Knows (came ++ piece) gone sent b
+knows_came : (came gone : List ℕ) (sent : List SentResponse) (a b : Connection) (piece : List ℕ) → Knows came gone sent a → HasCome a b piece → Knows (came ++ piece) gone sent b
 knows_came came gone sent a b piece x has = (
   x.0,
   record {
@@ -194,7 +208,7 @@ knows_came came gone sent a b piece x has = (
   },
 )
 
-knows_left : (came gone : List ℕ) (sent : List Sent) (a b : Connection) (octets : List ℕ) → Knows came gone sent a → HasLeft a b octets → Knows came (gone ++ octets) sent b
+knows_left : (came gone : List ℕ) (sent : List SentResponse) (a b : Connection) (octets : List ℕ) → Knows came gone sent a → HasLeft a b octets → Knows came (gone ++ octets) sent b
 knows_left came gone sent a b octets x has = (
   x.0,
   record {
@@ -211,7 +225,10 @@ knows_left came gone sent a b octets x has = (
 -- ---- a read writes nothing, or that a body may come
 
 -- what a read leaves of what was told
-reads_plain : (came gone : List ℕ) (sent : List Sent) (items : List Item) (a b : Connection) → IsTold gone sent items a → IsPlain items → b.out ≡ a.out → ((g : Stage) → b.stage ≡ g → OrderAt g items) → Stands came (asked_in items) b → Knows came gone sent b
+reads_plain : (came gone : List ℕ) (sent : List SentResponse) (items : List Item) (a b : Connection)
+    → IsTold gone sent items a → IsPlain items → b.out ≡ a.out
+    → ((g : Stage) → b.stage ≡ g → OrderAt g items) → Stands came (asked_in items) b
+    → Knows came gone sent b
 reads_plain came gone sent items a b told plain out order stands = (
   items,
   record {
@@ -232,10 +249,14 @@ plain_at (stages.Body r) items x = x
 plain_at (stages.Whole r) items x = x
 plain_at (stages.Wrong status head) items x = x
 
-quiet : (came gone : List ℕ) (sent : List Sent) (items : List Item) (a b : Connection) → IsTold gone sent items a → IsPlain items → b.out ≡ a.out → Stands came (asked_in items) b → Knows came gone sent b
+quiet : (came gone : List ℕ) (sent : List SentResponse) (items : List Item) (a b : Connection)
+    → IsTold gone sent items a → IsPlain items → b.out ≡ a.out → Stands came (asked_in items) b
+    → Knows came gone sent b
 quiet came gone sent items a b told plain out stands = reads_plain came gone sent items a b told plain out (λ g is. plain_at g items plain) stands
 
-told_invited : (came gone : List ℕ) (sent : List Sent) (items : List Item) (a b : Connection) → IsTold gone sent items a → IsPlain items → b.out ≡ a.out ++ invitation → Stands came (asked_in items) b → Knows came gone sent b
+told_invited : (came gone : List ℕ) (sent : List SentResponse) (items : List Item)
+    (a b : Connection) → IsTold gone sent items a → IsPlain items → b.out ≡ a.out ++ invitation
+    → Stands came (asked_in items) b → Knows came gone sent b
 told_invited came gone sent items a b told plain out stands = (
   items ++ Invited ∷ [],
   record {
@@ -245,11 +266,14 @@ told_invited came gone sent items a b told plain out stands = (
       order = plain_at b.stage (items ++ Invited ∷ []) (plain_invited items plain);
       sent_is = sent_invited items ∙ told.sent_is;
     };
-    stands = subst (λ (xs : List Asked). Stands came xs b) (sym (asked_invited items)) stands;
+    stands = subst (λ (xs : List RequestContent). Stands came xs b) (sym (asked_invited items)) stands;
   },
 )
 
-begins_told : (came gone : List ℕ) (sent : List Sent) (items : List Item) (a mid b : Connection) (r : Request) (server : Server) (count : ℕ) → IsTold gone sent items a → IsPlain items → IsPast a.input a.out server count mid → BeginsBody mid r b → Stands came (asked_in items) b → Knows came gone sent b
+begins_told : (came gone : List ℕ) (sent : List SentResponse) (items : List Item)
+    (a mid b : Connection) (r : Request) (server : Server) (count : ℕ) → IsTold gone sent items a
+    → IsPlain items → IsPast a.input a.out server count mid → BeginsBody mid r b
+    → Stands came (asked_in items) b → Knows came gone sent b
 begins_told came gone sent items a mid b r server count told plain past (inl z) stands = invites_told z.2
   where
     invites_told : Invites mid z.0 z.1 → Knows came gone sent b
@@ -257,7 +281,9 @@ begins_told came gone sent items a mid b r server count told plain past (inl z) 
     invites_told (inr y) = told_invited came gone sent items a b told plain (z.3.out_is ∙ (y.2 ∙ ap (λ (o : List ℕ). o ++ invitation) past.out_is)) stands
 begins_told came gone sent items a mid b r server count told plain past (inr z) stands = quiet came gone sent items a b told plain (z.2.out_is ∙ past.out_is) stands
 
-head_told : (came gone : List ℕ) (sent : List Sent) (items : List Item) (a b : Connection) → IsTold gone sent items a → IsPlain items → FromHead a b → Stands came (asked_in items) b → Knows came gone sent b
+head_told : (came gone : List ℕ) (sent : List SentResponse) (items : List Item) (a b : Connection)
+    → IsTold gone sent items a → IsPlain items → FromHead a b → Stands came (asked_in items) b
+    → Knows came gone sent b
 head_told came gone sent items a b told plain (inl y) stands = begins_told came gone sent items a y.4 b y.0 y.1 y.2 told plain y.5 y.6 stands
 head_told came gone sent items a b told plain (inr (inl y)) stands = quiet came gone sent items a b told plain y.3.out_is stands
 head_told came gone sent items a b told plain (inr (inr y)) stands = quiet came gone sent items a b told plain y.3.out_is stands
@@ -272,7 +298,9 @@ body_out r a b (inr (inl y)) = y.3.out_is
 body_out r a b (inr (inr (inl y))) = y.3.out_is
 body_out r a b (inr (inr (inr y))) = y.3.out_is
 
-same_told : (came gone : List ℕ) (sent : List Sent) (items : List Item) (a b : Connection) (stage : Stage) → IsTold gone sent items a → a.stage ≡ stage → StandsAt stage came (asked_in items) a.server a.input → IsSame a b → Knows came gone sent b
+same_told : (came gone : List ℕ) (sent : List SentResponse) (items : List Item) (a b : Connection)
+    (stage : Stage) → IsTold gone sent items a → a.stage ≡ stage
+    → StandsAt stage came (asked_in items) a.server a.input → IsSame a b → Knows came gone sent b
 same_told came gone sent items a b stage told is x y = (
   items,
   record {
@@ -286,7 +314,10 @@ same_told came gone sent items a b stage told is x y = (
   },
 )
 
-read_at : (stage : Stage) (came gone : List ℕ) (sent : List Sent) (items : List Item) (a b : Connection) → IsTold gone sent items a → a.stage ≡ stage → StandsAt stage came (asked_in items) a.server a.input → ReadFrom stage a b → Knows came gone sent b
+read_at : (stage : Stage) (came gone : List ℕ) (sent : List SentResponse) (items : List Item)
+    (a b : Connection) → IsTold gone sent items a → a.stage ≡ stage
+    → StandsAt stage came (asked_in items) a.server a.input → ReadFrom stage a b
+    → Knows came gone sent b
 read_at stages.Head came gone sent items a b told is x y =
     head_told came gone sent items a b told (subst (λ (g : Stage). OrderAt g items) is told.order) y (read_head came (asked_in items) a b x y)
 read_at (stages.Body r) came gone sent items a b told is x y =
@@ -295,22 +326,26 @@ read_at (stages.Whole r) came gone sent items a b told is x y = same_told came g
 read_at (stages.Wrong status head) came gone sent items a b told is x y = same_told came gone sent items a b (stages.Wrong status head) told is x y
 read_at stages.Ended came gone sent items a b told is x y = same_told came gone sent items a b stages.Ended told is x y
 
-knows_read : (came gone : List ℕ) (sent : List Sent) (a b : Connection) → Knows came gone sent a → HasRead a b → Knows came gone sent b
+knows_read : (came gone : List ℕ) (sent : List SentResponse) (a b : Connection) → Knows came gone sent a → HasRead a b → Knows came gone sent b
 knows_read came gone sent a b x y = read_at a.stage came gone sent x.0 a b x.1.told refl x.1.stands y
 
 -- ---- a response
 
 -- the next request is read, or the connection is closed
-after_answer : (keeps : Bool) (read : Bool) (fresh other closed : Server) → read ≡ true → IsClosed closed → ¬ (IsClosed (cond keeps (cond read fresh other) closed)) → cond keeps (cond read fresh other) closed ≡ fresh
+after_answer : (keeps : Bool) (read : Bool) (fresh other closed : Server) → read ≡ true
+    → IsClosed closed → ¬ (IsClosed (cond keeps (cond read fresh other) closed))
+    → cond keeps (cond read fresh other) closed ≡ fresh
 after_answer true read fresh other closed is shut not_shut = ap (λ (r : Bool). cond r fresh other) is
 after_answer false read fresh other closed is shut not_shut = absurd (not_shut shut)
 
-goes_on : (s t : Server) (plan : Plan) → s.reading ≡ Reads.Done → s.limits ≡ limits → t ≡ answered s plan → ¬ (IsClosed t) → t ≡ new_server limits
+goes_on : (s t : Server) (plan : Plan) → s.reading ≡ Reads.Done → s.limits ≡ limits → t ≡ after_writing s plan → ¬ (IsClosed t) → t ≡ new_server limits
 goes_on s t plan is limited same unclosed =
     let whole = after_answer plan.keep_alive (is_read s.reading) (new_server s.limits) _ _ (ap is_read is) refl (subst (λ (u : Server). ¬ (IsClosed u)) same unclosed) in
     same ∙ (whole ∙ ap new_server limited)
 
-to_told : (came gone : List ℕ) (sent : List Sent) (items : List Item) (a b : Connection) (r : Request) (one : Sent) → IsTold gone sent items a → IsPlain items → IsHeld came (asked_in items) r a.server a.input
+to_told : (came gone : List ℕ) (sent : List SentResponse) (items : List Item) (a b : Connection)
+    (r : Request) (one : SentResponse) → IsTold gone sent items a → IsPlain items
+    → IsHeld came (asked_in items) r a.server a.input
     → Answers a b one.status one.phrase one.headers one.body (is_head (method_kind r.method.items)) → Knows came gone (sent ++ one ∷ []) b
 to_told came gone sent items a b r one told plain held ans =
     let asked = asked_of r in
@@ -318,27 +353,31 @@ to_told came gone sent items a b r one told plain held ans =
     let item = To asked one w.octets in
     let more = items ++ item ∷ [] in
     let firsts : Firsts (asked_in more) came b.input =
-    subst₂ (λ (xs : List Asked) (o : List ℕ). Firsts xs came o) (sym (asked_to items asked one w.octets)) (sym w.input_is) held.firsts in (
+    subst₂ (λ (xs : List RequestContent) (o : List ℕ). Firsts xs came o) (sym (asked_to items asked one w.octets)) (sym w.input_is) held.firsts in (
       more,
       record {
         told = record {
           text = ap (λ (o : List ℕ). gone ++ o) w.out_is ∙ text_more gone a.out w.octets items item told.text refl;
           each = all_more items item told.each (a.server, b.server, w.written);
           order = plain_at b.stage more (plain_to items asked one w.octets plain);
-          sent_is = sent_to items asked one w.octets ∙ ap (λ (xs : List Sent). xs ++ one ∷ []) told.sent_is;
+          sent_is = sent_to items asked one w.octets ∙ ap (λ (xs : List SentResponse). xs ++ one ∷ []) told.sent_is;
         };
         stands = next_stands ans.then firsts;
       },
     )
   where
-    next_stands : ((b.stage ≡ stages.Ended) × IsClosed b.server) ⊎ ((b.stage ≡ stages.Head) × ¬ (IsClosed b.server)) → Firsts (asked_in (items ++ To (asked_of r) one ans.writes.octets ∷ [])) came b.input
+    next_stands : ((b.stage ≡ stages.Ended) × IsClosed b.server)
+        ⊎ ((b.stage ≡ stages.Head) × ¬ (IsClosed b.server))
+        → Firsts (asked_in (items ++ To (asked_of r) one ans.writes.octets ∷ [])) came b.input
         → Stands came (asked_in (items ++ To (asked_of r) one ans.writes.octets ∷ [])) b
     next_stands (inl x) f = subst (λ (g : Stage). StandsAt g came (asked_in (items ++ To (asked_of r) one ans.writes.octets ∷ [])) b.server b.input) (sym x.0) (b.input, f)
     next_stands (inr x) f =
         subst (λ (g : Stage). StandsAt g came (asked_in (items ++ To (asked_of r) one ans.writes.octets ∷ [])) b.server b.input) (sym x.0)
         (record { server_is = goes_on a.server b.server ans.writes.written.plan held.reading_is held.limits_are ans.writes.written.after x.1; firsts = f })
 
-wrong_told : (came gone : List ℕ) (sent : List Sent) (items : List Item) (a b : Connection) (head : Bool) (one : Sent) → IsTold gone sent items a → IsPlain items → IsOver came (asked_in items)
+wrong_told : (came gone : List ℕ) (sent : List SentResponse) (items : List Item) (a b : Connection)
+    (head : Bool) (one : SentResponse) → IsTold gone sent items a → IsPlain items
+    → IsOver came (asked_in items)
     → EndsWith a b one.status one.phrase one.headers one.body head → Knows came gone (sent ++ one ∷ []) b
 wrong_told came gone sent items a b head one told plain over ans =
     let w = ans.writes in
@@ -350,14 +389,16 @@ wrong_told came gone sent items a b head one told plain over ans =
           text = ap (λ (o : List ℕ). gone ++ o) w.out_is ∙ text_more gone a.out w.octets items item told.text refl;
           each = all_more items item told.each (head, a.server, b.server, w.written);
           order = subst (λ (g : Stage). OrderAt g more) (sym ans.ended) (order_wrong items one w.octets plain);
-          sent_is = sent_wrong items one w.octets ∙ ap (λ (xs : List Sent). xs ++ one ∷ []) told.sent_is;
+          sent_is = sent_wrong items one w.octets ∙ ap (λ (xs : List SentResponse). xs ++ one ∷ []) told.sent_is;
         };
         stands = subst (λ (g : Stage). StandsAt g came (asked_in more) b.server b.input) (sym ans.ended)
-            (over.0, subst (λ (xs : List Asked). Firsts xs came over.0) (sym (asked_wrong items one w.octets)) over.1);
+            (over.0, subst (λ (xs : List RequestContent). Firsts xs came over.0) (sym (asked_wrong items one w.octets)) over.1);
       },
     )
 
-answer_at : (stage : Stage) (came gone : List ℕ) (sent : List Sent) (items : List Item) (a b : Connection) (one : Sent) → IsTold gone sent items a → a.stage ≡ stage → StandsAt stage came (asked_in items) a.server a.input
+answer_at : (stage : Stage) (came gone : List ℕ) (sent : List SentResponse) (items : List Item)
+    (a b : Connection) (one : SentResponse) → IsTold gone sent items a → a.stage ≡ stage
+    → StandsAt stage came (asked_in items) a.server a.input
     → AnswersAt (manner_at stage) a b one.status one.phrase one.headers one.body → Knows came gone (sent ++ one ∷ []) b
 answer_at stages.Head came gone sent items a b one told is x y = absurd y
 answer_at (stages.Body r) came gone sent items a b one told is x y = absurd y
@@ -365,14 +406,19 @@ answer_at (stages.Whole r) came gone sent items a b one told is x y = to_told ca
 answer_at (stages.Wrong status head) came gone sent items a b one told is x y = wrong_told came gone sent items a b head one told (subst (λ (g : Stage). OrderAt g items) is told.order) x y
 answer_at stages.Ended came gone sent items a b one told is x y = absurd y
 
-knows_answer : (came gone : List ℕ) (sent : List Sent) (a b : Connection) (one : Sent) → Knows came gone sent a → HasAnswered a b one.status one.phrase one.headers one.body → Knows came gone (sent ++ one ∷ []) b
+knows_answer : (came gone : List ℕ) (sent : List SentResponse) (a b : Connection)
+    (one : SentResponse) → Knows came gone sent a
+    → HasAnswered a b one.status one.phrase one.headers one.body
+    → Knows came gone (sent ++ one ∷ []) b
 knows_answer came gone sent a b one x y = answer_at a.stage came gone sent x.0 a b one x.1.told refl x.1.stands y
 
 -- ---- all moves
 
-knows_all : (moves : List Move) (came gone : List ℕ) (sent : List Sent) (a b : Connection) → Knows came gone sent a → Moves a moves b → Knows (came ++ came_in moves) (gone ++ left_in moves) (sent ++ answers_in moves) b
+knows_all : (moves : List Move) (came gone : List ℕ) (sent : List SentResponse) (a b : Connection)
+    → Knows came gone sent a → Moves a moves b
+    → Knows (came ++ came_in moves) (gone ++ left_in moves) (sent ++ answers_in moves) b
 knows_all [] came gone sent a b x y =
-    subst (λ (xs : List Sent). Knows (came ++ []) (gone ++ []) xs b) (sym (append-nil sent))
+    subst (λ (xs : List SentResponse). Knows (came ++ []) (gone ++ []) xs b) (sym (append-nil sent))
     (subst₂ (λ (c g : List ℕ). Knows c g sent b) (sym (append-nil came)) (sym (append-nil gone)) (subst (λ (c : Connection). Knows came gone sent c) y x))
 knows_all (Came piece ∷ moves) came gone sent a b x y =
     let rest = knows_all moves (came ++ piece) gone sent y.0 b (knows_came came gone sent a y.0 piece x y.1) y.2 in
@@ -380,17 +426,17 @@ knows_all (Came piece ∷ moves) came gone sent a b x y =
 knows_all (Read ∷ moves) came gone sent a b x y = knows_all moves came gone sent y.0 b (knows_read came gone sent a y.0 x y.1) y.2
 knows_all (Answered one ∷ moves) came gone sent a b x y =
     let rest = knows_all moves came gone (sent ++ one ∷ []) y.0 b (knows_answer came gone sent a y.0 one x y.1) y.2 in
-    subst (λ (xs : List Sent). Knows (came ++ came_in moves) (gone ++ left_in moves) xs b) (append_assoc sent (one ∷ []) (answers_in moves)) rest
+    subst (λ (xs : List SentResponse). Knows (came ++ came_in moves) (gone ++ left_in moves) xs b) (append_assoc sent (one ∷ []) (answers_in moves)) rest
 knows_all (Left octets ∷ moves) came gone sent a b x y =
     let rest = knows_all moves came (gone ++ octets) sent y.0 b (knows_left came gone sent a y.0 octets x y.1) y.2 in
     subst (λ (g : List ℕ). Knows (came ++ came_in moves) g (sent ++ answers_in moves) b) (append_assoc gone octets (left_in moves)) rest
 
-first_at : (stage : Stage) (came : List ℕ) (done : List Asked) (server : Server) (input : List ℕ) → StandsAt stage came done server input → AreFirst (done ++ waiting (request_at stage)) came
-first_at stages.Head came done server input x = subst (λ (xs : List Asked). AreFirst xs came) (sym (append-nil done)) (are_first done came input x.firsts)
-first_at (stages.Body r) came done server input x = subst (λ (xs : List Asked). AreFirst xs came) (sym (append-nil done)) (are_first done came x.from x.before)
+first_at : (stage : Stage) (came : List ℕ) (done : List RequestContent) (server : Server) (input : List ℕ) → StandsAt stage came done server input → AreFirst (done ++ waiting (request_at stage)) came
+first_at stages.Head came done server input x = subst (λ (xs : List RequestContent). AreFirst xs came) (sym (append-nil done)) (are_first done came input x.firsts)
+first_at (stages.Body r) came done server input x = subst (λ (xs : List RequestContent). AreFirst xs came) (sym (append-nil done)) (are_first done came x.from x.before)
 first_at (stages.Whole r) came done server input x = are_first (done ++ asked_of r ∷ []) came input x.firsts
-first_at (stages.Wrong status head) came done server input x = subst (λ (xs : List Asked). AreFirst xs came) (sym (append-nil done)) (are_first done came x.0 x.1)
-first_at stages.Ended came done server input x = subst (λ (xs : List Asked). AreFirst xs came) (sym (append-nil done)) (are_first done came x.0 x.1)
+first_at (stages.Wrong status head) came done server input x = subst (λ (xs : List RequestContent). AreFirst xs came) (sym (append-nil done)) (are_first done came x.0 x.1)
+first_at stages.Ended came done server input x = subst (λ (xs : List RequestContent). AreFirst xs came) (sym (append-nil done)) (are_first done came x.0 x.1)
 
 pub fair : (a b : Connection) (moves : List Move) → IsNew a → Moves a moves b → IsFair moves b
 fair a b moves new made =

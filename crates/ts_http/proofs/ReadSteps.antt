@@ -20,7 +20,7 @@ use Rattle.http1.specs.Message.{ReadsRequests, Request as Message}
 use Rattle.http1.specs.Server.{ReadsAt, ReadsHead as HeadRead, ReadsInBody, ServerReads, TakesHead, after_informational, after_piece, cycle, cycle_at, new_server}
 use Rattle.http1.specs.ServerTrace.{IsBetween as MayStop, Seen, SeenRequest, Trace, Writes, headers_at, informs, no_body, observe, reads, request_view, stops, writes}
 use Rattle.http1.proofs.ServerTraceLemmas.{HasRequests, trace_reads_requests}
-use Rattle.ts_http.specs.Account.{Asked, asked_of}
+use Rattle.ts_http.specs.Account.{RequestContent, asked_of}
 use Rattle.ts_http.specs.Looking.{ReadsEnd, ReadsHead, ReadsPiece, Starves}
 use Rattle.ts_http.specs.Moves.{BeginsBody, FromBody, FromHead, Has, HasStarved, Invites, IsLonger, IsPast, IsRefused, TakesPiece, limits}
 use Rattle.ts_http.specs.Request.{field_in}
@@ -36,10 +36,14 @@ Found count event = record { consumed = count; event = event }
 
 -- ---- by what the server was reading
 
-at_head : (s t : Server) (octets : List ℕ) (spans : List HeaderSpan) (read : Progress RequestSpans) → s.reading ≡ Reads.Head → ServerReads s octets spans t read → HeadRead s octets spans t read.consumed read.event
+at_head : (s t : Server) (octets : List ℕ) (spans : List HeaderSpan) (read : Progress RequestSpans)
+    → s.reading ≡ Reads.Head → ServerReads s octets spans t read
+    → HeadRead s octets spans t read.consumed read.event
 at_head s t octets spans read is found = subst (λ (r : Reading). ReadsAt r s octets spans t read) is found
 
-at_body : (s t : Server) (octets : List ℕ) (spans : List HeaderSpan) (read : Progress RequestSpans) (d : Decoder) → s.reading ≡ Reads.Body d → ServerReads s octets spans t read → ReadsInBody d s octets spans t read
+at_body : (s t : Server) (octets : List ℕ) (spans : List HeaderSpan) (read : Progress RequestSpans)
+    (d : Decoder) → s.reading ≡ Reads.Body d → ServerReads s octets spans t read
+    → ReadsInBody d s octets spans t read
 at_body s t octets spans read d is found = subst (λ (r : Reading). ReadsAt r s octets spans t read) is found
 
 cycle_idle : (s : Server) → s.writing ≡ Phase.Head → cycle s ≡ s
@@ -53,7 +57,9 @@ piece_after s t octets next idle is =
 
 -- a trace from what a read left, from before it
 before_read : (s t : Server) (octets more : List ℕ) (spans : List HeaderSpan) (count : ℕ) (event : Event RequestSpans) (server : Server) (input : List ℕ) (later : Seen) (rest : List ℕ)
-    → ServerReads s octets spans t (Found count event) → server ≡ t → input ≡ drop count octets → Trace server (input ++ more) later rest → Trace s (octets ++ more) (observe octets spans event later) rest
+    → ServerReads s octets spans t (Found count event) → server ≡ t → input ≡ drop count octets
+    → Trace server (input ++ more) later rest
+    → Trace s (octets ++ more) (observe octets spans event later) rest
 before_read s t octets more spans count event server input later rest found is_t is_input trace =
     reads s t octets more spans (Found count event) later rest found
     (subst₂ (λ (u : Server) (o : List ℕ). Trace u (o ++ more) later rest) is_t is_input trace)
@@ -61,7 +67,7 @@ before_read s t octets more spans count event server input later rest found is_t
 -- ---- a head
 
 -- what is known once a head was read, before the client is told that the body may come
-record Begun (came : List ℕ) (done : List Asked) (r : Request) (s t : Server) (octets : List ℕ) (count : ℕ) : Type 0 where
+record Begun (came : List ℕ) (done : List RequestContent) (r : Request) (s t : Server) (octets : List ℕ) (count : ℕ) : Type 0 where
   decoder : Decoder
   reading_is : t.reading ≡ Reads.Body decoder
   writing_is : t.writing ≡ Phase.Head
@@ -70,12 +76,16 @@ record Begun (came : List ℕ) (done : List Asked) (r : Request) (s t : Server) 
   goes : (more : List ℕ) (later : Seen) (rest : List ℕ) → Trace t (drop count octets ++ more) later rest → Trace s (octets ++ more) (with_request minor r later) rest
 
 -- the parts of a head are those of the request
-told_head : (octets : List ℕ) (spans : List HeaderSpan) (head : RequestSpans) (r : Request) (later : Seen) → r.method.items ≡ span_bytes octets head.method → r.target.items ≡ span_bytes octets head.path
+told_head : (octets : List ℕ) (spans : List HeaderSpan) (head : RequestSpans) (r : Request)
+    (later : Seen) → r.method.items ≡ span_bytes octets head.method
+    → r.target.items ≡ span_bytes octets head.path
     → map field_in r.fields.items ≡ headers_at octets spans head.headers → r.body.items ≡ [] → observe octets spans (events.Head head) later ≡ with_request head.version r later
 told_head octets spans head r later method target fields body =
     λ i. seen_in head.version (sym method i) (sym target i) (sym fields i) (sym body i) later
 
-begun : (came : List ℕ) (done : List Asked) (r : Request) (s t : Server) (octets : List ℕ) (count : ℕ) → s ≡ new_server limits → ReadsHead s octets t r count → Begun came done r s t octets count
+begun : (came : List ℕ) (done : List RequestContent) (r : Request) (s t : Server) (octets : List ℕ)
+    (count : ℕ) → s ≡ new_server limits → ReadsHead s octets t r count
+    → Begun came done r s t octets count
 begun came done r s t octets count fresh x =
     let takes : TakesHead s octets x.spans t count x.head = at_head s t octets x.spans (Found count (events.Head x.head)) (ap (λ (u : Server). u.reading) fresh) x.read in
     record {
@@ -108,11 +118,13 @@ invited_limits a server out (inl x) = ap (λ (u : Server). u.limits) x.1
 invited_limits a server out (inr x) = ap (λ (u : Server). u.limits) x.1
 
 -- the same, of a connection by its parts
-stands_by : (came : List ℕ) (done : List Asked) (b : Connection) (server : Server) (stage : Stage) (input out : List ℕ) → Has b server stage input out → StandsAt stage came done server input → Stands came done b
+stands_by : (came : List ℕ) (done : List RequestContent) (b : Connection) (server : Server)
+    (stage : Stage) (input out : List ℕ) → Has b server stage input out
+    → StandsAt stage came done server input → Stands came done b
 stands_by came done b server stage input out has x =
     subst₂ (λ (u : Server) (o : List ℕ). StandsAt b.stage came done u o) (sym has.server_is) (sym has.input_is) (subst (λ (g : Stage). StandsAt g came done server input) (sym has.stage_is) x)
 
-begins : (came : List ℕ) (done : List Asked) (a mid b : Connection) (r : Request) (t : Server) (count : ℕ) → IsBetween came done a.server a.input → Begun came done r a.server t a.input count
+begins : (came : List ℕ) (done : List RequestContent) (a mid b : Connection) (r : Request) (t : Server) (count : ℕ) → IsBetween came done a.server a.input → Begun came done r a.server t a.input count
     → IsPast a.input a.out t count mid → BeginsBody mid r b → Stands came done b
 begins came done a mid b r t count x y past (inl z) =
     let server = z.0 in
@@ -138,7 +150,7 @@ starves_head s t octets count is x =
     let found = at_head s t octets x.spans (Found count events.NeedMore) is x.read in
     (found.1, ap (λ (n : ℕ). drop n octets) found.0)
 
-pub read_head : (came : List ℕ) (done : List Asked) (a b : Connection) → IsBetween came done a.server a.input → FromHead a b → Stands came done b
+pub read_head : (came : List ℕ) (done : List RequestContent) (a b : Connection) → IsBetween came done a.server a.input → FromHead a b → Stands came done b
 read_head came done a b x (inl y) = begins came done a y.4 b y.0 y.1 y.2 x (begun came done y.0 a.server y.1 a.input y.2 x.server_is y.3) y.5 y.6
 read_head came done a b x (inr (inl y)) =
     let starved = starves_head a.server y.0 a.input y.1 (ap (λ (u : Server). u.reading) x.server_is) y.2 in
@@ -165,7 +177,9 @@ told_piece minor r s piece later longer =
       } ∷ later.requests;
     }
 
-takes : (came : List ℕ) (done : List Asked) (a mid b : Connection) (r : Request) (piece : List ℕ) (t : Server) (count : ℕ) → IsWithin came done r a.server a.input → ReadsPiece a.server a.input t piece count
+takes : (came : List ℕ) (done : List RequestContent) (a mid b : Connection) (r : Request)
+    (piece : List ℕ) (t : Server) (count : ℕ) → IsWithin came done r a.server a.input
+    → ReadsPiece a.server a.input t piece count
     → IsPast a.input a.out t count mid → TakesPiece mid r piece b → Stands came done b
 takes came done a mid b r piece t count x y past (inl z) =
     let body = at_body a.server t a.input y.spans (Found count (events.Data y.span)) x.decoder x.reading_is y.read in
@@ -189,7 +203,7 @@ takes came done a mid b r piece t count x y past (inl z) =
     stands_by came done b mid.server (stages.Body z.0) mid.input mid.out z.2 within
 takes came done a mid b r piece t count x y past (inr z) = stands_by came done b mid.server (stages.Wrong 413 _) mid.input mid.out z.1 (x.from, x.before)
 
-starves : (came : List ℕ) (done : List Asked) (r : Request) (a b : Connection) → IsWithin came done r a.server a.input → HasStarved a (stages.Body r) b → Stands came done b
+starves : (came : List ℕ) (done : List RequestContent) (r : Request) (a b : Connection) → IsWithin came done r a.server a.input → HasStarved a (stages.Body r) b → Stands came done b
 starves came done r a b x y =
     let t = y.0 in
     let count = y.1 in
@@ -209,7 +223,7 @@ starves came done r a b x y =
     stands_by came done b t (stages.Body r) (drop count a.input) a.out y.3 within
 
 -- the end of the body: the request was read whole
-ends : (came : List ℕ) (done : List Asked) (r : Request) (a b : Connection) (t : Server) (count : ℕ) → IsWithin came done r a.server a.input → ReadsEnd a.server a.input t count
+ends : (came : List ℕ) (done : List RequestContent) (r : Request) (a b : Connection) (t : Server) (count : ℕ) → IsWithin came done r a.server a.input → ReadsEnd a.server a.input t count
     → Has b t (stages.Whole r) (drop count a.input) a.out → Stands came done b
 ends came done r a b t count x y has =
     let event = events.End y.trailers in
@@ -227,13 +241,15 @@ ends came done r a b t count x y has =
           let stream = drop count a.input ++ more in
           let stopped : Trace t stream last stream = stops t stream (subst MayStop (sym done_reading) tt) in
           let traced = before_read a.server t a.input more y.spans count event t (drop count a.input) last stream y.read refl refl stopped in
-          let whole : HasRequests limits (x.from ++ more) (with_request x.minor r seen).requests stream = trace_reads_requests limits (x.from ++ more) (with_request x.minor r seen) stream (x.goes more seen stream traced) in
+          let whole : HasRequests limits (x.from ++ more) (with_request x.minor r seen).requests
+          stream = trace_reads_requests limits (x.from ++ more) (with_request x.minor r seen)
+          stream (x.goes more seen stream traced) in
           let sees : Sees (seen_of x.minor r seen) (asked_of r) = record { method_is = refl; target_is = refl; fields_are = refl; body_is = append-nil r.body.items } in
           one_more done (asked_of r) came x.from (drop count a.input) more (seen_of x.minor r seen) whole.0 (x.before more) whole.1 whole.2 sees;
     } in
     stands_by came done b t (stages.Whole r) (drop count a.input) a.out has held
 
-pub read_body : (came : List ℕ) (done : List Asked) (r : Request) (a b : Connection) → IsWithin came done r a.server a.input → FromBody r a b → Stands came done b
+pub read_body : (came : List ℕ) (done : List RequestContent) (r : Request) (a b : Connection) → IsWithin came done r a.server a.input → FromBody r a b → Stands came done b
 read_body came done r a b x (inl y) = takes came done a y.4 b r y.0 y.1 y.2 x y.3 y.5 y.6
 read_body came done r a b x (inr (inl y)) = ends came done r a b y.0 y.1 x y.2 y.3
 read_body came done r a b x (inr (inr (inl y))) = starves came done r a b x y

@@ -12,7 +12,7 @@ use Rattle.http1.specs.Fields.{Header}
 use Rattle.http1.specs.Head.{head_refusal, is_status_line, response_text}
 use Rattle.http1.specs.Output.{GivesOrRefuses}
 use Rattle.http1.specs.Server.{after_end, after_response, cycle, planned_response, responding, response_plan, response_refusal, with_writing, writing}
-use Rattle.ts_http.specs.Writing.{IsWritten, answered, pieces_of}
+use Rattle.ts_http.specs.Writing.{IsWritten, after_writing, pieces_of}
 
 -- what succeeded was not refused
 pub not_refused : (refusal : Option WriteError) (spare len : ℕ) (r : Result (Unit {0}) WriteError) → GivesOrRefuses refusal spare len r → is_ok r ≡ true → refusal ≡ None
@@ -37,7 +37,9 @@ sending s plan w = record s {
 
 module _ (old : Server) (status : ℕ) (reason phrase : List ℕ) (headers : List Header) (body : List ℕ) (size : BodySize) (sized : size ≡ Known (length body)) (reasoned : reason ≡ phrase) where
   -- the head as it was planned
-  head_planned : (p : Planned (response_plan old status size headers) (is_status_line old.request.minor status reason) headers) (o0 o1 : List ℕ) → o0 ≡ [] → o1 ≡ o0 ++ planned_response old status reason size headers
+  head_planned : (p : Planned (response_plan old status size headers)
+      (is_status_line old.request.minor status reason) headers) (o0 o1 : List ℕ) → o0 ≡ [] → o1 ≡ o0
+      ++ planned_response old status reason size headers
       → o1 ≡ response_text old.request.minor status phrase (headers ++ p.plan.extra)
   head_planned p o0 o1 empty is1 =
       is1 ∙ ap (λ (o : List ℕ). o ++ planned_response old status reason size headers) empty
@@ -47,7 +49,10 @@ module _ (old : Server) (status : ℕ) (reason phrase : List ℕ) (headers : Lis
   is_planned : (p : Planned (response_plan old status size headers) (is_status_line old.request.minor status reason) headers) → response_plan old status (Known (length body)) headers ≡ Ok p.plan
   is_planned p = subst (λ (n : BodySize). response_plan old status n headers ≡ Ok p.plan) sized p.is
 
-  is_line : (p : Planned (response_plan old status size headers) (is_status_line old.request.minor status reason) headers) → head_refusal (is_status_line old.request.minor status phrase) (headers ++ p.plan.extra) ≡ None
+  is_line : (p : Planned (response_plan old status size headers)
+      (is_status_line old.request.minor status reason) headers)
+      → head_refusal (is_status_line old.request.minor status phrase) (headers ++ p.plan.extra) ≡
+      None
   is_line p = subst (λ (r : List ℕ). head_refusal (is_status_line old.request.minor status r) (headers ++ p.plan.extra) ≡ None) reasoned p.line_is
 
   -- with its body

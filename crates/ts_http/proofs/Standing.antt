@@ -7,7 +7,7 @@ use Rattle.http1.specs.declared.server.Server.{Server}
 use Rattle.http1.specs.Fields.{Header}
 use Rattle.http1.specs.Server.{new_server}
 use Rattle.http1.specs.ServerTrace.{Seen, SeenRequest, Trace, no_body}
-use Rattle.ts_http.specs.Account.{Asked, asked_of}
+use Rattle.ts_http.specs.Account.{RequestContent, asked_of}
 use Rattle.ts_http.specs.Moves.{limits}
 use Rattle.ts_http.specs.Request.{field_in}
 use Rattle.ts_http.specs.declared.connection.Connection.{Connection}
@@ -39,12 +39,12 @@ abbrev pub with_request : ℕ → Request → Seen → Seen
 with_request minor r later = seen_in minor r.method.items r.target.items (map field_in r.fields.items) r.body.items later
 
 -- no head has come
-pub record IsBetween (came : List ℕ) (done : List Asked) (server : Server) (input : List ℕ) : Type 0 where
+pub record IsBetween (came : List ℕ) (done : List RequestContent) (server : Server) (input : List ℕ) : Type 0 where
   pub server_is : server ≡ new_server limits
   pub firsts : Firsts done came input
 
 -- the body of a request comes
-pub record IsWithin (came : List ℕ) (done : List Asked) (r : Request) (server : Server) (input : List ℕ) : Type 0 where
+pub record IsWithin (came : List ℕ) (done : List RequestContent) (r : Request) (server : Server) (input : List ℕ) : Type 0 where
   pub decoder : Decoder
   pub reading_is : server.reading ≡ Reads.Body decoder
   pub writing_is : server.writing ≡ Phase.Head
@@ -55,22 +55,22 @@ pub record IsWithin (came : List ℕ) (done : List Asked) (r : Request) (server 
   pub goes : (more : List ℕ) (later : Seen) (rest : List ℕ) → Trace server (input ++ more) later rest → Trace (new_server limits) (from ++ more) (with_request minor r later) rest
 
 -- a request has come whole
-pub record IsHeld (came : List ℕ) (done : List Asked) (r : Request) (server : Server) (input : List ℕ) : Type 0 where
+pub record IsHeld (came : List ℕ) (done : List RequestContent) (r : Request) (server : Server) (input : List ℕ) : Type 0 where
   pub reading_is : server.reading ≡ Reads.Done
   pub writing_is : server.writing ≡ Phase.Head
   pub limits_are : server.limits ≡ limits
   pub firsts : Firsts (done ++ asked_of r ∷ []) came input
 
 -- nothing more is read
-abbrev pub IsOver : List ℕ → List Asked → Type 0
+abbrev pub IsOver : List ℕ → List RequestContent → Type 0
 IsOver came done = (rest : List ℕ) × Firsts done came rest
 
-abbrev pub StandsAt : Stage → List ℕ → List Asked → Server → List ℕ → Type 0
+abbrev pub StandsAt : Stage → List ℕ → List RequestContent → Server → List ℕ → Type 0
 StandsAt stages.Head came done server input = IsBetween came done server input
 StandsAt (stages.Body r) came done server input = IsWithin came done r server input
 StandsAt (stages.Whole r) came done server input = IsHeld came done r server input
 StandsAt (stages.Wrong status head) came done server input = IsOver came done
 StandsAt stages.Ended came done server input = IsOver came done
 
-abbrev pub Stands : List ℕ → List Asked → Connection → Type 0
+abbrev pub Stands : List ℕ → List RequestContent → Connection → Type 0
 Stands came done c = StandsAt c.stage came done c.server c.input

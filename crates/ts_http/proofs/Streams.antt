@@ -3,23 +3,23 @@ use Rattle.std.proofs.Common.{◌≡◌, ◌∙◌, refl, sym, ap, subst, subst�
 use Rattle.std.proofs.lemmas.List.{append-nil}
 use Rattle.http1.specs.Message.{ReadsRequests, Request as Message}
 use Rattle.http1.specs.ServerTrace.{SeenRequest, request_view}
-use Rattle.ts_http.specs.Account.{AreFirst, AreRequests, Asked, IsRequest}
+use Rattle.ts_http.specs.Account.{AreFirst, AreRequests, RequestContent, IsRequest}
 use Rattle.ts_http.specs.Moves.{limits}
 
 -- whatever comes yet, the stream begins with these requests, and the rest follows
-pub record First (asked : List Asked) (stream rest more : List ℕ) : Type 0 where
+pub record First (asked : List RequestContent) (stream rest more : List ℕ) : Type 0 where
   pub ms : List Message
   pub reads : ReadsRequests limits (stream ++ more) ms (rest ++ more)
   pub are : AreRequests asked ms
 
-abbrev pub Firsts : List Asked → List ℕ → List ℕ → Type 0
+abbrev pub Firsts : List RequestContent → List ℕ → List ℕ → Type 0
 Firsts asked stream rest = (more : List ℕ) → First asked stream rest more
 
 pub firsts_none : Firsts [] [] []
 firsts_none more = record { ms = []; reads = refl; are = tt }
 
 -- more has come
-pub firsts_came : (asked : List Asked) (stream rest piece : List ℕ) → Firsts asked stream rest → Firsts asked (stream ++ piece) (rest ++ piece)
+pub firsts_came : (asked : List RequestContent) (stream rest piece : List ℕ) → Firsts asked stream rest → Firsts asked (stream ++ piece) (rest ++ piece)
 firsts_came asked stream rest piece firsts more =
     let f = firsts (piece ++ more) in
     record {
@@ -29,7 +29,7 @@ firsts_came asked stream rest piece firsts more =
     }
 
 -- what came so far begins with these
-pub are_first : (asked : List Asked) (stream rest : List ℕ) → Firsts asked stream rest → AreFirst asked stream
+pub are_first : (asked : List RequestContent) (stream rest : List ℕ) → Firsts asked stream rest → AreFirst asked stream
 are_first asked stream rest firsts =
     let f = firsts [] in (f.ms, rest, subst₂ (λ (s r : List ℕ). ReadsRequests limits s f.ms r) (append-nil stream) (append-nil rest) f.reads, f.are)
 
@@ -37,14 +37,14 @@ joined : (stream mid rest : List ℕ) (ms ns : List Message) → ReadsRequests l
 joined stream mid rest [] ns x y = subst (λ (s : List ℕ). ReadsRequests limits s ns rest) (sym x) y
 joined stream mid rest (m ∷ ms) ns x y = (x.0, x.1, joined x.0 mid rest ms ns x.2 y)
 
-are_joined : (asked others : List Asked) (ms ns : List Message) → AreRequests asked ms → AreRequests others ns → AreRequests (asked ++ others) (ms ++ ns)
+are_joined : (asked others : List RequestContent) (ms ns : List Message) → AreRequests asked ms → AreRequests others ns → AreRequests (asked ++ others) (ms ++ ns)
 are_joined [] others [] ns x y = y
 are_joined [] others (m ∷ ms) ns x y = absurd x
 are_joined (a ∷ asked) others [] ns x y = absurd x
 are_joined (a ∷ asked) others (m ∷ ms) ns x y = (x.0, are_joined asked others ms ns x.1 y)
 
 -- a request that was seen asks this
-pub record Sees (seen : SeenRequest) (asked : Asked) : Type 0 where
+pub record Sees (seen : SeenRequest) (asked : RequestContent) : Type 0 where
   pub method_is : seen.method ≡ asked.method
   pub target_is : seen.target ≡ asked.target
   pub fields_are : seen.headers ≡ asked.fields
@@ -54,7 +54,7 @@ head_of : SeenRequest → List SeenRequest → SeenRequest
 head_of other [] = other
 head_of other (x ∷ xs) = x
 
-one_message : (ms : List Message) (seen : SeenRequest) (asked : Asked) → map request_view ms ≡ seen ∷ [] → Sees seen asked → AreRequests (asked ∷ []) ms
+one_message : (ms : List Message) (seen : SeenRequest) (asked : RequestContent) → map request_view ms ≡ seen ∷ [] → Sees seen asked → AreRequests (asked ∷ []) ms
 one_message [] seen asked is sees = cc
 one_message (m ∷ []) seen asked is sees =
     let same : request_view m ≡ seen = cc in (
@@ -69,7 +69,7 @@ one_message (m ∷ []) seen asked is sees =
 one_message (m ∷ n ∷ ms) seen asked is sees = cc
 
 -- one request more was seen
-pub one_more : (asked : List Asked) (one : Asked) (stream from rest more : List ℕ) (seen : SeenRequest) (ms : List Message) → First asked stream from more
+pub one_more : (asked : List RequestContent) (one : RequestContent) (stream from rest more : List ℕ) (seen : SeenRequest) (ms : List Message) → First asked stream from more
     → ReadsRequests limits (from ++ more) ms (rest ++ more) → map request_view ms ≡ seen ∷ [] → Sees seen one → First (asked ++ one ∷ []) stream rest more
 one_more asked one stream from rest more seen ms before reads views sees = record {
   ms = before.ms ++ ms;

@@ -18,7 +18,7 @@ use Rattle.ts_http.specs.declared.request.Request.{Request}
 -- ---- moves
 
 -- a response
-pub record Sent : Type 0 where
+pub record SentResponse : Type 0 where
   pub status : ℕ
   pub phrase : List ℕ
   pub headers : List Header
@@ -27,7 +27,7 @@ pub record Sent : Type 0 where
 pub data Move : Type 0 where
   Came : List ℕ → Move
   Read : Move
-  Answered : Sent → Move
+  Answered : SentResponse → Move
   Left : List ℕ → Move
 
 abbrev pub Makes : Connection → Move → Connection → Type 0
@@ -53,7 +53,7 @@ left_in [] = []
 left_in (Left octets ∷ moves) = octets ++ left_in moves
 left_in (move ∷ moves) = left_in moves
 
-abbrev pub answers_in : List Move → List Sent
+abbrev pub answers_in : List Move → List SentResponse
 answers_in [] = []
 answers_in (Answered sent ∷ moves) = sent ∷ answers_in moves
 answers_in (move ∷ moves) = answers_in moves
@@ -61,13 +61,13 @@ answers_in (move ∷ moves) = answers_in moves
 -- ---- what is told
 
 -- what a request asks
-pub record Asked : Type 0 where
+pub record RequestContent : Type 0 where
   pub method : List ℕ
   pub target : List ℕ
   pub fields : List Header
   pub body : List ℕ
 
-abbrev pub asked_of : Request → Asked
+abbrev pub asked_of : Request → RequestContent
 asked_of r = record {
   method = r.method.items;
   target = r.target.items;
@@ -79,8 +79,8 @@ asked_of r = record {
 -- taken, behind which the connection ends
 pub data Item : Type 0 where
   Invited : Item
-  To : Asked → Sent → List ℕ → Item
-  Wrong : Sent → List ℕ → Item
+  To : RequestContent → SentResponse → List ℕ → Item
+  Wrong : SentResponse → List ℕ → Item
 
 abbrev pub octets_in : Item → List ℕ
 octets_in Invited = invitation
@@ -96,12 +96,12 @@ IsItem (To asked sent octets) = (old new : Server)
 IsItem (Wrong sent octets) = (head : Bool) × (old new : Server)
     × IsWritten old sent.status sent.phrase (closing true sent.headers) sent.body head octets new
 
-abbrev pub asked_in : List Item → List Asked
+abbrev pub asked_in : List Item → List RequestContent
 asked_in [] = []
 asked_in (To asked sent octets ∷ items) = asked ∷ asked_in items
 asked_in (item ∷ items) = asked_in items
 
-abbrev pub sent_in : List Item → List Sent
+abbrev pub sent_in : List Item → List SentResponse
 sent_in [] = []
 sent_in (Invited ∷ items) = sent_in items
 sent_in (To asked sent octets ∷ items) = sent ∷ sent_in items
@@ -115,30 +115,30 @@ IsInOrder (item ∷ items) = IsInOrder items
 
 -- ---- requests of the grammar of HTTP/1.1 (RFC 9112)
 
-pub record IsRequest (asked : Asked) (m : Message) : Type 0 where
+pub record IsRequest (asked : RequestContent) (m : Message) : Type 0 where
   pub method_is : (request_view m).method ≡ asked.method
   pub target_is : (request_view m).target ≡ asked.target
   pub fields_are : (request_view m).headers ≡ asked.fields
   pub body_is : (request_view m).body.bytes ≡ asked.body
 
-abbrev pub AreRequests : List Asked → List Message → Type 0
+abbrev pub AreRequests : List RequestContent → List Message → Type 0
 AreRequests [] [] = Unit {0}
 AreRequests (asked ∷ others) (m ∷ ms) = IsRequest asked m × AreRequests others ms
 AreRequests asked ms = ⊥
 
 -- these are the first requests of a stream
-abbrev pub AreFirst : List Asked → List ℕ → Type 0
+abbrev pub AreFirst : List RequestContent → List ℕ → Type 0
 AreFirst asked stream = (ms : List Message) × (rest : List ℕ)
     × ReadsRequests limits stream ms rest × AreRequests asked ms
 
 -- ---- the law
 
-abbrev pub waiting : Option Request → List Asked
+abbrev pub waiting : Option Request → List RequestContent
 waiting (Some r) = asked_of r ∷ []
 waiting None = []
 
 -- the requests that were answered, and the one that waits for its response
-abbrev pub with_waiting : List Asked → Connection → List Asked
+abbrev pub with_waiting : List RequestContent → Connection → List RequestContent
 with_waiting asked c = asked ++ waiting (request_in c)
 
 -- What left and what waits is the text of the responses, in order, each but the last, which ends

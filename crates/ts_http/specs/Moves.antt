@@ -1,5 +1,6 @@
 -- What the calls of a connection do: each is one of these moves.
-use Rattle.std.specs.Prelude.{◌≡◌, ◌⊎◌, ◌<◌, ◌+◌, ◌++◌, ℕ, Bool, true, false, List, [], length, drop}
+use Rattle.std.specs.Prelude.{◌≡◌, ◌⊎◌, ◌<◌, ◌+◌, ◌++◌, ℕ, Bool, true, false, List, [], length}
+use Rattle.std.specs.Prelude.{drop}
 use Rattle.std.specs.Prelude.{Option, Some, None, codes}
 use Rattle.http1.specs.declared.conn.Limits.{Limits}
 use Rattle.http1.specs.declared.server.Server.{Server}

@@ -8,7 +8,8 @@ use Rattle.ts_http.specs.declared.times.Phase.{Phase}
 use Rattle.ts_http.specs.declared.times.Phase.TheVariants.{Idle, Request, Asked, Answer, Ended}
 use Rattle.ts_http.specs.declared.times.Times.{Times}
 
--- a request has a second more for each mebibyte of its body; while the node is asked there is no end
+-- a request has a second more for each mebibyte of its body; while the node is asked there is no
+-- end
 abbrev pub longest : Phase → ℕ → ℕ → ℕ → ℕ
 longest Idle idle request size = idle
 longest Request idle request size = min (2 ^ 64 - 1) (request + size / 1048576 * 1000)
@@ -50,13 +51,13 @@ is_phase Ended Ended = true
 is_phase phase other = false
 
 -- it does something else from now on
-abbrev pub entered : Phase → ℕ → Times → Times
-entered phase now t =
+abbrev pub enter_phase : Phase → ℕ → Times → Times
+enter_phase phase now t =
     if is_phase t.phase phase then t else record { phase = phase; since = now; left = 0 }
 
 -- octets left: after each 65,536 the time begins anew
-abbrev pub lightened : ℕ → ℕ → Times → Times
-lightened count now t = let left = min (2 ^ 64 - 1) (t.left + count) in
+abbrev pub lighten : ℕ → ℕ → Times → Times
+lighten count now t = let left = min (2 ^ 64 - 1) (t.left + count) in
     if nat_le 65536 left then record t { left = 0; since = now } else record t { left = left }
 
 -- how many octets of a body are announced, or have come

@@ -1,5 +1,6 @@
 -- What is written for a response.
-use Rattle.std.specs.Prelude.{◌≡◌, ◌++◌, ℕ, Bool, true, false, List, [], ◌∷◌, length, Ok, None, codes}
+use Rattle.std.specs.Prelude.{◌≡◌, ◌++◌, ℕ, Bool, true, false, List, [], ◌∷◌, length, Ok, None}
+use Rattle.std.specs.Prelude.{codes}
 use Rattle.http1.specs.declared.conn.BodySize.TheVariants.{Known}
 use Rattle.http1.specs.declared.server.Server.{Server}
 use Rattle.http1.specs.declared.conn.Writing.TheVariants.{Done}
@@ -20,8 +21,8 @@ closing true headers = headers ++ (codes "connection", codes "close") ∷ []
 closing false headers = headers
 
 -- the server's side once a response was written by a plan
-abbrev pub answered : Server → Plan → Server
-answered s plan = cycle (record s {
+abbrev pub after_writing : Server → Plan → Server
+after_writing s plan = cycle (record s {
   writing = Done;
   request = record (s.request) { keep_alive = plan.keep_alive; expects_continue = false };
 })
@@ -36,4 +37,4 @@ pub record IsWritten (old : Server) (status : ℕ) (phrase : List ℕ) (headers 
   pub fit : AreAccepted (pieces_of is_head body) (encoder_for plan.framing) []
   pub octets_are : octets ≡ response_text old.request.minor status phrase
       (headers ++ plan.extra) ++ body_text (pieces_of is_head body) (encoder_for plan.framing) []
-  pub after : new ≡ answered old plan
+  pub after : new ≡ after_writing old plan

@@ -3,7 +3,7 @@
 ghost use Rattle.std.specs.Prelude.{◌≡◌, ◌≤◌, length, option_map, take, OnOk};
 ghost use Rattle.ts_http.specs.Moves.{HasCome, HasLeft, IsNew, IsSame, is_ended, request_in};
 ghost use Rattle.ts_http.specs.Moves.{wrong_in};
-ghost use Rattle.ts_http.specs.Times.{entered, is_late_in, lightened, phase_in, size_at};
+ghost use Rattle.ts_http.specs.Times.{enter_phase, is_late_in, lighten, phase_in, size_at};
 
 use crate::request::Request;
 use crate::times::{Phase, Times};
@@ -73,7 +73,7 @@ impl Connection {
     pub fn push(&mut self, piece: &[u8], now: u64) -> Result<(), AllocError>
         ensures came { OnOk result (HasCome self.old self.new piece.now) }
         ensures times { OnOk result (self.new.times
-            ≡ entered (phase_in self.new) now self.old.times) }
+            ≡ enter_phase (phase_in self.new) now self.old.times) }
     {
         if !self.is_ended() {
             self.input.push(piece)?;
@@ -127,7 +127,7 @@ impl Connection {
         requires { count ≤ length self.old.out }
         ensures left { HasLeft self.old self.new (take count self.old.out) }
         ensures times { self.new.times
-            ≡ entered (phase_in self.new) now (lightened count now self.old.times) }
+            ≡ enter_phase (phase_in self.new) now (lighten count now self.old.times) }
     {
         self.out.skip(count);
         self.times.leave(count, now);
@@ -162,7 +162,7 @@ impl Connection {
     /// Takes down what the connection does at this moment.
     pub(crate) fn look(&mut self, now: u64)
         ensures same { IsSame self.old self.new }
-        ensures times { self.new.times ≡ entered (phase_in self.new) now self.old.times }
+        ensures times { self.new.times ≡ enter_phase (phase_in self.new) now self.old.times }
         ensures announced { self.new.announced ≡ self.old.announced }
     {
         let phase = self.phase();

@@ -3,7 +3,7 @@
 ghost use Rattle.std.specs.Prelude.{◌≡◌, OnOk};
 ghost use Rattle.ts_http.specs.Moves.{BeginsBody, FromBody, FromHead, Has, HasRead, Invites};
 ghost use Rattle.ts_http.specs.Moves.{TakesPiece};
-ghost use Rattle.ts_http.specs.Times.{entered, phase_in};
+ghost use Rattle.ts_http.specs.Times.{enter_phase, phase_in};
 ghost use Rattle.ts_http.specs.declared.connection.Stage.TheVariants.{Wrong};
 
 use crate::connection::{Connection, MAX_BODY, Stage};
@@ -156,7 +156,7 @@ impl Connection {
     pub fn read(&mut self, now: u64) -> Result<Progress, HttpFault>
         ensures read { OnOk result (HasRead self.old self.new) }
         ensures times { OnOk result (self.new.times
-            ≡ entered (phase_in self.new) now self.old.times) }
+            ≡ enter_phase (phase_in self.new) now self.old.times) }
     {
         let progress = self.read_on()?;
         self.look(now);

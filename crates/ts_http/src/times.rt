@@ -1,7 +1,7 @@
 //! When a connection is late.
 
 ghost use Rattle.std.specs.Prelude.{◌≡◌};
-ghost use Rattle.ts_http.specs.Times.{entered, is_late, lightened, longest};
+ghost use Rattle.ts_http.specs.Times.{enter_phase, is_late, lighten, longest};
 ghost use Rattle.ts_http.specs.declared.times.Phase.TheVariants.{Idle};
 
 /// What a connection does.
@@ -61,7 +61,7 @@ impl Times {
 
     /// The connection does this at this moment.
     pub fn enter(&mut self, phase: Phase, now: u64)
-        ensures { self.new ≡ entered phase now self.old }
+        ensures { self.new ≡ enter_phase phase now self.old }
     {
         if self.phase != phase {
             self.begin(phase, now);
@@ -79,7 +79,7 @@ impl Times {
 
     /// So many octets left.
     pub fn leave(&mut self, count: usize, now: u64)
-        ensures { self.new ≡ lightened count now self.old }
+        ensures { self.new ≡ lighten count now self.old }
     {
         self.left = self.left.saturating_add(count);
         if self.left >= STRIDE {

@@ -3,7 +3,7 @@
 ghost use Rattle.std.specs.Prelude.{◌≡◌, true, false, IfOk, OnOk};
 ghost use Rattle.http1.specs.Head.{pairs};
 ghost use Rattle.ts_http.specs.Writing.{IsWritten, closing};
-ghost use Rattle.ts_http.specs.Times.{entered, phase_in};
+ghost use Rattle.ts_http.specs.Times.{enter_phase, phase_in};
 ghost use Rattle.ts_http.specs.Moves.{Answers, EndsWith, HasAnswered, Writes, manner_at};
 
 use crate::connection::{Connection, Stage};
@@ -76,7 +76,7 @@ fn written(
 }
 
 /// Header fields, with the one that says that the connection ends.
-fn closed(headers: Vec<Header<'_>>) -> Result<Vec<Header<'_>>, HttpFault>
+fn with_close(headers: Vec<Header<'_>>) -> Result<Vec<Header<'_>>, HttpFault>
     ensures { IfOk result (λ all. pairs all.items ≡ closing true (pairs headers.entry.items)) }
 {
     let mut headers = headers;
@@ -150,7 +150,7 @@ impl Connection {
             (pairs headers.entry.items) body.now is_head) }
         ensures times { OnOk result (self.new.times ≡ self.old.times) }
     {
-        let headers = closed(headers)?;
+        let headers = with_close(headers)?;
         self.write(status, phrase, &headers, body, is_head)?;
         self.stage = Stage::Ended;
         Ok(())
@@ -175,7 +175,8 @@ impl Connection {
         }
     }
 
-    /// Writes the response to the request that waits, or to what is wrong; then the connection ends.
+    /// Writes the response to the request that waits, or to what is wrong; then the connection
+    /// ends.
     ///
     /// # Errors
     ///
@@ -192,7 +193,7 @@ impl Connection {
         ensures answered { OnOk result (HasAnswered self.old self.new status phrase.now
             (pairs headers.entry.items) body.now) }
         ensures times { OnOk result (self.new.times
-            ≡ entered (phase_in self.new) now self.old.times) }
+            ≡ enter_phase (phase_in self.new) now self.old.times) }
     {
         self.respond_to(status, phrase, headers, body)?;
         self.look(now);

@@ -4,7 +4,7 @@ use Rattle.std.proofs.lemmas.List.{take_at, drop_at}
 use Rattle.std.proofs.lemmas.Nat.{from_be_bytes-to_be_bytes_4}
 use Rattle.std.specs.List.{flat_map, AllByRecursion}
 use Rattle.std.specs.Int.{to_be_bytes, from_be_bytes, w32}
-use Rattle.ts_journal.specs.Images.{Header, Block, block, bodies_in, IsBody, IsWhole, Stands}
+use Rattle.ts_journal.specs.Images.{Header, Block, block, bodies_in, IsBody, IsWholeBlock, Stands}
 
 pub record Same (m n : ℕ) (t u : List ℕ) : Type 0 where
   pub number : m ≡ n
@@ -32,12 +32,14 @@ alike b c t u x y is =
     }
 
 -- whole blocks up to a closed gate have the same bodies as others that have the same octets
-one_list : (bs cs : List Block) (r s : List ℕ) → AllByRecursion IsWhole bs → AllByRecursion IsWhole cs → flat_map block bs ++ 0 ∷ r ≡ flat_map block cs ++ 0 ∷ s → bodies_in bs ≡ bodies_in cs
+one_list : (bs cs : List Block) (r s : List ℕ) → AllByRecursion IsWholeBlock bs → AllByRecursion IsWholeBlock cs → flat_map block bs ++ 0 ∷ r ≡ flat_map block cs ++ 0 ∷ s → bodies_in bs ≡ bodies_in cs
 one_list [] [] r s x y is = refl
 one_list [] (c ∷ cs) r s x y is = absurd (y.0.is_open (sym (ap (λ l. get_or l 0 0) is)))
 one_list (b ∷ bs) [] r s x y is = absurd (x.0.is_open (ap (λ l. get_or l 0 0) is))
 one_list (b ∷ bs) (c ∷ cs) r s x y is =
-    let a = alike b c (flat_map block bs ++ 0 ∷ r) (flat_map block cs ++ 0 ∷ s) x.0.fits y.0.fits (sym (append_assoc (block b) (flat_map block bs) (0 ∷ r)) ∙ is ∙ append_assoc (block c) (flat_map block cs) (0 ∷ s)) in
+    let a = alike b c (flat_map block bs ++ 0 ∷ r) (flat_map block cs ++ 0 ∷ s) x.0.fits y.0.fits
+    (sym (append_assoc (block b) (flat_map block bs) (0 ∷ r)) ∙ is
+    ∙ append_assoc (block c) (flat_map block cs) (0 ∷ s)) in
     let more = one_list bs cs r s x.1 y.1 a.rest in
     λ i. a.body i ∷ more i
 

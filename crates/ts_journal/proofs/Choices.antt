@@ -1,5 +1,8 @@
 -- A header is read in one way, and so the disk in use is.
-use Rattle.std.proofs.Common.{◌≡◌, ◌<◌, ◌≤◌, inl, inr, ◌^◌, ℕ, Bool, true, false, cond, nat_lt, List, [], ◌∷◌, ◌++◌, length, get_or, take, drop, take-append-drop, length-take, subst, Some, None, IfSome, IfNone, refl, sym, ◌∙◌, ap, arith, length-append}
+use Rattle.std.proofs.Common.{◌≡◌, ◌<◌, ◌≤◌, inl, inr, ◌^◌, ℕ, Bool, true, false, cond, nat_lt}
+use Rattle.std.proofs.Common.{List, [], ◌∷◌, ◌++◌, length, get_or, take, drop, take-append-drop}
+use Rattle.std.proofs.Common.{length-take, subst, Some, None, IfSome, IfNone, refl, sym, ◌∙◌, ap}
+use Rattle.std.proofs.Common.{arith, length-append}
 use Rattle.std.proofs.lemmas.List.{get_or_at, take_at, drop_more}
 use Rattle.ts_journal.specs.declared.journal.Stage.TheVariants.{Live}
 use Rattle.std.proofs.lemmas.Nat.{from_be_bytes-to_be_bytes_4, from_be_bytes-to_be_bytes_8}
@@ -89,7 +92,9 @@ behind_not_wrong h image none wide (inr e) = none (at_generation h e.0) (earlier
 
 -- owners that are the same have one header at each generation
 pub same_owner : (x y : Owner) → is_same_owner x y ≡ true → at_generation (header_of_owner x) y.generation ≡ header_of_owner y
-same_owner x y same = same_header (at_generation (header_of_owner x) y.generation) (header_of_owner y) (grind (arith, same, nat_tests)) (grind (arith, same, nat_tests)) (grind (arith, same, nat_tests)) refl
+same_owner x y same = same_header (at_generation (header_of_owner x) y.generation)
+    (header_of_owner y) (grind (arith, same, nat_tests)) (grind (arith, same, nat_tests))
+    (grind (arith, same, nat_tests)) refl
 
 pub owner_same : (x y : Owner) → at_generation (header_of_owner x) y.generation ≡ header_of_owner y → is_same_owner x y ≡ true
 owner_same x y same = grind (arith, ap (λ (h : Header). h.node) same, ap (λ (h : Header). h.nodes) same, ap (λ (h : Header). h.group) same, nat_tests)
@@ -108,7 +113,10 @@ chosen a b (Right x) Wrong l m = tt
 chosen a b (Right x) (Right y) l m = two (is_same_owner x y) (nat_lt y.generation x.generation) (nat_lt x.generation y.generation) refl refl refl
   where
     two : (o s t : Bool) → is_same_owner x y ≡ o → nat_lt y.generation x.generation ≡ s → nat_lt x.generation y.generation ≡ t
-        → IfSome {T = Choice} (cond o (cond s (Some (record { swapped = false; owner = x; stage = Live })) (cond t (Some (record { swapped = true; owner = y; stage = Live })) None)) None) (λ choice. IsChosen choice a b)
+        → IfSome {T = Choice}
+        (cond o (cond s (Some (record { swapped = false; owner = x; stage = Live }))
+        (cond t (Some (record { swapped = true; owner = y; stage = Live })) None)) None)
+        (λ choice. IsChosen choice a b)
     two false s t o p q = tt
     two true true t o p q = record { live = l; other = live_earlier (header_of_owner x) (header_of_owner y) b (same_owner x y o) m (grind (arith, nat_tests)) }
     two true false true o p q = record { live = m; other = live_earlier (header_of_owner y) (header_of_owner x) a (turned (same_owner x y o)) l (grind (arith, nat_tests)) }
@@ -126,8 +134,17 @@ same_generation a b x y l m same = record {
 -- two that are live, and not of one node and group
 other_owner : (a b : List ℕ) (x y : Owner) → IsLive (header_of_owner x) a → IsLive (header_of_owner y) b → is_same_owner x y ≡ false → Unchosen a b
 other_owner a b x y l m other = record {
-  first = λ h live behind. absurd (cc (sym other ∙ owner_same x y (ap (λ (z : Header). at_generation z y.generation) (sym (one_header h (header_of_owner x) a live l)) ∙ behind_same (header_of_owner y) h b m behind)));
-  second = λ h live behind. absurd (cc (sym other ∙ owner_same x y (ap (λ (z : Header). at_generation z y.generation) (sym (behind_same (header_of_owner x) h a l behind)) ∙ ap (λ (z : Header). at_generation z y.generation) (one_header h (header_of_owner y) b live m))));
+  first = λ h live behind. absurd
+      (cc (sym other ∙ owner_same x y
+      (ap (λ (z : Header). at_generation z y.generation)
+      (sym (one_header h (header_of_owner x) a live l))
+      ∙ behind_same (header_of_owner y) h b m behind)));
+  second = λ h live behind. absurd
+      (cc (sym other ∙ owner_same x y
+      (ap (λ (z : Header). at_generation z y.generation)
+      (sym (behind_same (header_of_owner x) h a l behind))
+      ∙ ap (λ (z : Header). at_generation z y.generation)
+      (one_header h (header_of_owner y) b live m))));
 }
 
 -- neither is live or after
@@ -156,7 +173,10 @@ unchosen a b (Right x) Wrong l m = no_second a b m.1 (λ h behind. behind_not_wr
 unchosen a b (Right x) (Right y) l m = two (is_same_owner x y) (nat_lt y.generation x.generation) (nat_lt x.generation y.generation) refl refl refl
   where
     two : (o s t : Bool) → is_same_owner x y ≡ o → nat_lt y.generation x.generation ≡ s → nat_lt x.generation y.generation ≡ t
-        → IfNone {T = Choice} (cond o (cond s (Some (record { swapped = false; owner = x; stage = Live })) (cond t (Some (record { swapped = true; owner = y; stage = Live })) None)) None) (Unchosen a b)
+        → IfNone {T = Choice}
+        (cond o (cond s (Some (record { swapped = false; owner = x; stage = Live }))
+        (cond t (Some (record { swapped = true; owner = y; stage = Live })) None)) None)
+        (Unchosen a b)
     two false s t o p q = other_owner a b x y l m o
     two true true t o p q = tt
     two true false true o p q = tt
@@ -169,6 +189,9 @@ pub split_at_gate : (image : List ℕ) → 25 ≤ length image → get_or image 
 split_at_gate image long is = (take 24 image, omega (arith, length-take 24 image, long), (drop 25 image, at_gate image long ∙ ap (λ g. take 24 image ++ (g ∷ drop 25 image)) is))
 
 -- an image that begins with another header than the one at its places is not live
-pub not_header : (image other : List ℕ) (k : Header) → ((h : Header) (live : ℕ) (rest : List ℕ) → h.group < 2 ^ 32 → h.generation < 2 ^ 64 → image ≡ head h ++ (live ∷ rest) → h ≡ k) → other ≡ head k → (take 24 image ≡ other → ⊥) → (h : Header) → IsLive h image → ⊥
+pub not_header : (image other : List ℕ) (k : Header)
+    → ((h : Header) (live : ℕ) (rest : List ℕ) → h.group < 2 ^ 32 → h.generation < 2 ^ 64
+    → image ≡ head h ++ (live ∷ rest) → h ≡ k) → other ≡ head k → (take 24 image ≡ other → ⊥)
+    → (h : Header) → IsLive h image → ⊥
 not_header image other k reads is differs h l =
     differs (ap (take 24) l.is ∙ take_at (head h) (l.live ∷ l.rest) 24 refl ∙ ap head (reads h l.live l.rest l.right.group_to l.right.generation_to l.is) ∙ sym is)

@@ -1,7 +1,9 @@
 -- What is on two disks while a journal is written that has bodies from the start.
-use Rattle.std.proofs.Common.{◌^◌, ◌<◌, Result, Ok, Err, OnOk, ◌≡◌, ◌≢◌, ◌≤◌, ◌⊎◌, inl, inr, ⊎_elim, ℕ, false, List, [], ◌∷◌, ◌++◌, length, replicate, drop, refl, sym, ◌∙◌, ap, subst, arith, append_assoc, length-append}
+use Rattle.std.proofs.Common.{◌^◌, ◌<◌, Result, Ok, Err, OnOk, ◌≡◌, ◌≢◌, ◌≤◌, ◌⊎◌, inl, inr, ⊎_elim}
+use Rattle.std.proofs.Common.{ℕ, false, List, [], ◌∷◌, ◌++◌, length, replicate, drop, refl, sym}
+use Rattle.std.proofs.Common.{◌∙◌, ap, subst, arith, append_assoc, length-append}
 use Rattle.std.specs.List.{flat_map}
-use Rattle.ts_disk.specs.Disk.{State, IsDisk, IsDurable, Call, Same, Torn, written, EveryImage}
+use Rattle.ts_disk.specs.Disk.{State, IsDisk, IsDurable, Call, Same, Torn, overwrite, EveryImage}
 use Rattle.ts_journal.specs.Images.{Header, Member, head, Block, block, bodies_in, IsFresh, IsText, front, Stands, IsShut, Begins, IsUnused, InUse, OpensFrom, AllOrNone, AnyPair, EveryPair}
 use Rattle.ts_journal.proofs.Blocks.{one_bodies}
 use Rattle.ts_journal.proofs.Gates.{written_gate}
@@ -12,7 +14,7 @@ use Rattle.ts_journal.proofs.Choices.{live_not_shut}
 -- ---- one disk
 
 -- 25 octets 00 over what is there
-pub closed_first : (old : List ℕ) → IsShut (written old 0 (replicate 25 0))
+pub closed_first : (old : List ℕ) → IsShut (overwrite old 0 (replicate 25 0))
 closed_first old = (replicate 24 0, refl, (drop 25 old, refl))
 
 -- a write of a header and a live gate over no more leaves no more
@@ -61,9 +63,26 @@ stands_shut h blocks text image is begun = record {
 -- an unused image is not in use
 not_used : (m : Member) (bodies : List (List ℕ)) (image other : List ℕ) → IsUnused image → InUse m bodies image other → ⊥
 not_used m bodies image other (inl short) u =
-    absurd (omega (arith, short, ap length u.stands.closed.1, length-append (front u.header u.live u.stands.blocks) (0 ∷ u.stands.closed.0), length-append (head u.header) (u.live ∷ flat_map block u.stands.blocks)))
+    absurd (omega (
+      arith,
+      short,
+      ap length u.stands.closed.1,
+      length-append
+          (front u.header u.live u.stands.blocks) (0 ∷ u.stands.closed.0),
+      length-append (head u.header)
+          (u.live ∷ flat_map block u.stands.blocks),
+    ))
 not_used m bodies image other (inr shut) u = live_not_shut u.header image
-    (record { right = u.right; live = u.live; wide = u.is_live; rest = flat_map block u.stands.blocks ++ 0 ∷ u.stands.closed.0; is = u.stands.closed.1 ∙ append_assoc (head u.header) (u.live ∷ flat_map block u.stands.blocks) (0 ∷ u.stands.closed.0) }) shut
+    (record {
+      right = u.right;
+      live = u.live;
+      wide = u.is_live;
+      rest =
+          flat_map block u.stands.blocks ++ 0 ∷ u.stands.closed.0;
+      is = u.stands.closed.1
+          ∙ append_assoc (head u.header) (u.live ∷ flat_map block u.stands.blocks)
+          (0 ∷ u.stands.closed.0);
+    }) shut
 
 -- an image is unused, or all the bodies stand on it
 abbrev pub Filled : Header → List (List ℕ) → List ℕ → Type 0
@@ -87,16 +106,22 @@ none_yet bodies a b is other first second =
     pairs h bodies a b a b (nothing_yet h bodies a a (rests a is first)) (rests b other second)
 
 -- the live gate is opened last
-pub opens_gate : (h : Header) (bodies : List (List ℕ)) (old mid new : State) → EveryImage IsUnused old mid → Stands h 0 bodies mid.read → EveryImage (Torn 24 1 mid.read) mid new → EveryImage (Filled h bodies) old new
+pub opens_gate : (h : Header) (bodies : List (List ℕ)) (old mid new : State)
+    → EveryImage IsUnused old mid → Stands h 0 bodies mid.read
+    → EveryImage (Torn 24 1 mid.read) mid new → EveryImage (Filled h bodies) old new
 opens_gate h bodies old mid new run stands torn =
     and_then (Filled h bodies) old mid new (nothing_yet h bodies old mid run)
     (weaker (Torn 24 1 mid.read) (Filled h bodies) mid new (λ c t. ⊎_elim (λ shut. inl (inr shut)) (λ wide. inr wide) (torn_live h bodies mid.read c stands t)) torn)
 
-live_first : (h : Header) (text old new : List ℕ) → (begun : Begins (head h) text old) → new ≡ written old 24 (1 ∷ []) → (rest : List ℕ) × (new ≡ head h ++ (1 ∷ text ++ rest))
+live_first : (h : Header) (text old new : List ℕ) → (begun : Begins (head h) text old) → new ≡ overwrite old 24 (1 ∷ []) → (rest : List ℕ) × (new ≡ head h ++ (1 ∷ text ++ rest))
 live_first h text old new begun is = (begun.0, is ∙ written_gate (head h) (text ++ begun.0) old 24 0 begun.1 refl 1)
 
-opens : (m : Member) (group : ℕ) (blocks : List Block) (text first : List ℕ) (a b : State) → 1 ≤ m.node → m.node ≤ m.nodes → m.nodes ≤ 9 → group < 2 ^ 32 → IsText blocks text → IsDurable a → IsDurable b
-    → Begins (head (record { node = m.node; nodes = m.nodes; group = group; generation = 1 })) text first → a.read ≡ written first 24 (1 ∷ []) → IsShut b.read → AnyPair (OpensFrom m false (bodies_in blocks)) a b
+opens : (m : Member) (group : ℕ) (blocks : List Block) (text first : List ℕ) (a b : State)
+    → 1 ≤ m.node → m.node ≤ m.nodes → m.nodes ≤ 9 → group < 2 ^ 32 → IsText blocks text
+    → IsDurable a → IsDurable b
+    → Begins (head (record { node = m.node; nodes = m.nodes; group = group; generation = 1 })) text
+    first → a.read ≡ overwrite first 24 (1 ∷ []) → IsShut b.read
+    → AnyPair (OpensFrom m false (bodies_in blocks)) a b
 unfolding stands_shut
 opens m group blocks text first a b from to most small is one other begun a_is shut ca cb left_a left_b =
     let h : Header = record { node = m.node; nodes = m.nodes; group = group; generation = 1 } in
@@ -112,16 +137,36 @@ opens m group blocks text first a b from to most small is one other begun a_is s
       );
     } in
     subst (λ c. InUse m (bodies_in blocks) c cb) (sym (one ca left_a)) (subst (λ c. InUse m (bodies_in blocks) a.read c) (sym (other cb left_b))
-    (record { header = h; owner = refl; right = record { node_from = from; node_to = to; nodes_to = most; group_to = small; generation_to = omega arith }; live = 1; is_live = omega arith; stands = live; behind = inl shut }))
+    (record {
+      header = h;
+      owner = refl;
+      right =
+          record {
+            node_from = from;
+            node_to = to;
+            nodes_to = most;
+            group_to = small;
+            generation_to =
+                omega arith;
+          };
+      live = 1;
+      is_live = omega arith;
+      stands = live;
+      behind = inl shut;
+    }))
 
 -- the same, where the last write is answered
-pub gate_opened : {T E : Type 0} (h : Header) (text old new : List ℕ) (result : Result T E) → Begins (head h) text old → OnOk result (new ≡ written old 24 (1 ∷ [])) → OnOk result ((rest : List ℕ) × (new ≡ head h ++ (1 ∷ text ++ rest)))
+pub gate_opened : {T E : Type 0} (h : Header) (text old new : List ℕ) (result : Result T E)
+    → Begins (head h) text old → OnOk result (new ≡ overwrite old 24 (1 ∷ []))
+    → OnOk result ((rest : List ℕ) × (new ≡ head h ++ (1 ∷ text ++ rest)))
 gate_opened h text old new (Ok x) begun is = live_first h text old new begun is
 gate_opened h text old new (Err e) begun is = tt
 
 pub opens_now : {T E : Type 0} (m : Member) (group : ℕ) (text first : List ℕ) (a b : State) (result : Result T E) → 1 ≤ m.node → m.node ≤ m.nodes → m.nodes ≤ 9 → group < 2 ^ 32 → IsDurable b
-    → Begins (head (record { node = m.node; nodes = m.nodes; group = group; generation = 1 })) text first → Begins (head (record { node = m.node; nodes = m.nodes; group = group; generation = 0 })) (0 ∷ []) b.read
-    → OnOk result (IsDurable a) → OnOk result (a.read ≡ written first 24 (1 ∷ []))
+    → Begins (head (record { node = m.node; nodes = m.nodes; group = group; generation = 1 })) text
+    first → Begins (head (record
+    { node = m.node; nodes = m.nodes; group = group; generation = 0 })) (0 ∷ []) b.read
+    → OnOk result (IsDurable a) → OnOk result (a.read ≡ overwrite first 24 (1 ∷ []))
     → OnOk result ((blocks : List Block) → IsText blocks text → AnyPair (OpensFrom m false (bodies_in blocks)) a b)
 opens_now m group text first a b (Ok x) from to most small other begun shut durable is = λ blocks text_is.
     opens m group blocks text first a b from to most small text_is durable other begun is (head (record { node = m.node; nodes = m.nodes; group = group; generation = 0 }), refl, (0 ∷ shut.0, shut.1))

@@ -1,9 +1,11 @@
 -- The other disk changes, and the one in use stays.
-use Rattle.std.proofs.Common.{Result, Ok, Err, OnOk, ◌≤◌, ◌≡◌, ◌≢◌, ◌⊎◌, inl, inr, ⊎_elim, ℕ, ◌+◌, ◌<◌, ◌^◌, Bool, true, false, cond, not, List, [], ◌∷◌, ◌++◌, get_or, take, refl, sym, ◌∙◌, subst, arith, append_assoc, length-append}
+use Rattle.std.proofs.Common.{Result, Ok, Err, OnOk, ◌≤◌, ◌≡◌, ◌≢◌, ◌⊎◌, inl, inr, ⊎_elim, ℕ, ◌+◌}
+use Rattle.std.proofs.Common.{◌<◌, ◌^◌, Bool, true, false, cond, not, List, [], ◌∷◌, ◌++◌, get_or}
+use Rattle.std.proofs.Common.{take, refl, sym, ◌∙◌, subst, arith, append_assoc, length-append}
 use Rattle.std.proofs.lemmas.Bool.{cases_eq}
 use Rattle.std.specs.List.{flat_map}
-use Rattle.ts_disk.specs.Disk.{State, IsDisk, IsDurable, EveryImage, Torn, written}
-use Rattle.ts_journal.specs.Gate.{Opened}
+use Rattle.ts_disk.specs.Disk.{State, IsDisk, IsDurable, EveryImage, Torn, overwrite}
+use Rattle.ts_journal.specs.Gate.{HasOpenGate}
 use Rattle.ts_journal.specs.Images.{Header, member_of, IsRight, head, block, IsBody, Stands, IsShut, IsEarlier, Behind, InUse, Opens, AnyPair, OpensFrom, OneOrOther, EveryPair, entry}
 use Rattle.ts_journal.specs.Settled.{IsJournal, IsSpare, next, header_of, member_in, Holds, disk_a, disk_b}
 use Rattle.ts_journal.specs.declared.journal.Stage.TheVariants.{Copying}
@@ -23,11 +25,25 @@ other_moves state true current old new P Q is durable run first second ca cb lef
 other_moves state false current old new P Q is durable run first second ca cb left_a left_b =
     subst (λ c. Q c cb) (sym (still (state current) is durable ca left_a)) (first cb (run.each cb left_b) refl)
 
-used_by : {D : Type 0} (state : D → State) (j : Journal D) (bodies copied : List (List ℕ)) (other : List ℕ) → Holds state bodies copied j → Behind (header_of j) other → InUse (member_in j) bodies (state j.current).read other
-used_by state j bodies copied other holds behind = record { header = header_of j; owner = refl; right = holds.right; live = holds.live; is_live = holds.is_live; stands = holds.journal.stands; behind = behind }
+used_by : {D : Type 0} (state : D → State) (j : Journal D) (bodies copied : List (List ℕ))
+    (other : List ℕ) → Holds state bodies copied j → Behind (header_of j) other
+    → InUse (member_in j) bodies (state j.current).read other
+used_by state j bodies copied other holds behind =
+    record {
+      header = header_of j;
+      owner = refl;
+      right = holds.right;
+      live = holds.live;
+      is_live =
+          holds.is_live;
+      stands = holds.journal.stands;
+      behind = behind;
+    }
 
 -- at each moment of a step before the last, the journal opens from the disk in use
-pub behind_moves : {D : Type 0} (state : D → State) → ((d : D) → IsDisk (state d)) → (j : Journal D) (new : D) (bodies copied : List (List ℕ)) → Holds state bodies copied j → EveryImage (Behind (header_of j)) (state j.spare) (state new)
+pub behind_moves : {D : Type 0} (state : D → State) → ((d : D) → IsDisk (state d))
+    → (j : Journal D) (new : D) (bodies copied : List (List ℕ)) → Holds state bodies copied j
+    → EveryImage (Behind (header_of j)) (state j.spare) (state new)
     → EveryPair (OpensFrom (member_in j) j.swapped bodies) (state (disk_a j)) (state (disk_b j)) (state (cond j.swapped new j.current)) (state (cond j.swapped j.current new))
 behind_moves state lawful j new bodies copied holds run =
     other_moves state j.swapped j.current j.spare new (Behind (header_of j)) (OpensFrom (member_in j) j.swapped bodies) (lawful j.current) holds.journal.durable run
@@ -43,7 +59,7 @@ pub copying_is_behind : (h k : Header) (bodies : List (List ℕ)) (body : List �
 copying_is_behind h k bodies body end octets old new j fits are run =
     weaker (Appends end octets old.read) (Behind k) old new
     (λ c either. inl (⊎_elim (λ shut. shut_while h bodies c (stands_before h 0 bodies end old c j shut))
-    (λ wide. shut_while h (bodies ++ body ∷ []) c (stands_after h 0 bodies body end old c j fits (subst (λ t. Opened (take end old.read) t c) are wide))) either)) run
+    (λ wide. shut_while h (bodies ++ body ∷ []) c (stands_after h 0 bodies body end old c j fits (subst (λ t. HasOpenGate (take end old.read) t c) are wide))) either)) run
 
 -- a header and a closed gate stand for no bodies
 pub begun_journal : (h : Header) (live : ℕ) (disk : State) (rest : List ℕ) → IsDurable disk → disk.read ≡ head h ++ (live ∷ 0 ∷ rest) → IsJournal h live [] 25 disk
@@ -57,7 +73,9 @@ begun_journal h live disk rest durable is = record {
 abbrev pub Switches : Header → List (List ℕ) → List ℕ → Type 0
 Switches h copied image = IsShut image ⊎ ((live : ℕ) × (live ≢ 0) × Stands h live copied image)
 
-gate_is : (h : Header) (copied : List (List ℕ)) (old c : List ℕ) → (s : Stands h 0 copied old) → (gate : ℕ) → c ≡ head h ++ (gate ∷ flat_map block s.blocks ++ (0 ∷ s.closed.0)) → Stands h gate copied c
+gate_is : (h : Header) (copied : List (List ℕ)) (old c : List ℕ) → (s : Stands h 0 copied old)
+    → (gate : ℕ) → c ≡ head h ++ (gate ∷ flat_map block s.blocks ++ (0 ∷ s.closed.0))
+    → Stands h gate copied c
 gate_is h copied old c s gate is = record { blocks = s.blocks; whole = s.whole; are = s.are; closed = (s.closed.0, is ∙ sym (append_assoc (head h) (gate ∷ flat_map block s.blocks) (0 ∷ s.closed.0))) }
 
 split : (h : Header) (copied : List (List ℕ)) (old : List ℕ) → (s : Stands h 0 copied old) → old ≡ head h ++ (0 ∷ flat_map block s.blocks ++ (0 ∷ s.closed.0))
@@ -86,7 +104,10 @@ pub record IsReady {D : Type 0} (state : D → State) (bodies copied : List (Lis
   pub not_last : j.generation + 1 < 2 ^ 64
 
 -- at each moment of the last step
-one_of : {D : Type 0} (state : D → State) (j : Journal D) (bodies copied : List (List ℕ)) (c : List ℕ) → IsReady state bodies copied j → Switches (next (header_of j)) copied c → InUse (member_in j) bodies (state j.current).read c ⊎ InUse (member_in j) copied c (state j.current).read
+one_of : {D : Type 0} (state : D → State) (j : Journal D) (bodies copied : List (List ℕ))
+    (c : List ℕ) → IsReady state bodies copied j → Switches (next (header_of j)) copied c
+    → InUse (member_in j) bodies (state j.current).read c
+    ⊎ InUse (member_in j) copied c (state j.current).read
 one_of state j bodies copied c ready (inl shut) = inl (used_by state j bodies copied c ready.holds (inl shut))
 one_of state j bodies copied c ready (inr wide) =
     let s = ready.holds in inr (record {
@@ -99,7 +120,9 @@ one_of state j bodies copied c ready (inr wide) =
       behind = inr (earlier (header_of j) s.live bodies (state j.current).read s.right s.is_live s.journal.stands);
     })
 
-pub switch_moves : {D : Type 0} (state : D → State) → ((d : D) → IsDisk (state d)) → (j : Journal D) (new : D) (bodies copied : List (List ℕ)) → IsReady state bodies copied j → EveryImage (Torn 24 1 (state j.spare).read) (state j.spare) (state new)
+pub switch_moves : {D : Type 0} (state : D → State) → ((d : D) → IsDisk (state d))
+    → (j : Journal D) (new : D) (bodies copied : List (List ℕ)) → IsReady state bodies copied j
+    → EveryImage (Torn 24 1 (state j.spare).read) (state j.spare) (state new)
     → EveryPair (OneOrOther (member_in j) bodies copied) (state (disk_a j)) (state (disk_b j)) (state (cond j.swapped new j.current)) (state (cond j.swapped j.current new))
 switch_moves state lawful j new bodies copied ready torn =
     let h = next (header_of j) in
@@ -109,7 +132,10 @@ switch_moves state lawful j new bodies copied ready torn =
     (λ c s is. ⊎_elim (λ u. inl (inr u)) (λ u. inr (inl u)) (one_of state j bodies copied c ready s))
 
 -- the same, where the two have changed places
-pub switched_moves : {D : Type 0} (state : D → State) → ((d : D) → IsDisk (state d)) → (j : Journal D) (new x y : D) (bodies copied : List (List ℕ)) → x ≡ new → y ≡ j.current → IsReady state bodies copied j → EveryImage (Torn 24 1 (state j.spare).read) (state j.spare) (state new)
+pub switched_moves : {D : Type 0} (state : D → State) → ((d : D) → IsDisk (state d))
+    → (j : Journal D) (new x y : D) (bodies copied : List (List ℕ)) → x ≡ new → y ≡ j.current
+    → IsReady state bodies copied j
+    → EveryImage (Torn 24 1 (state j.spare).read) (state j.spare) (state new)
     → EveryPair (OneOrOther (member_in j) bodies copied) (state (disk_a j)) (state (disk_b j)) (state (cond (not j.swapped) y x)) (state (cond (not j.swapped) x y))
 switched_moves state lawful j new x y bodies copied x_is y_is ready torn =
     let Q = OneOrOther (member_in j) bodies copied in
@@ -117,19 +143,30 @@ switched_moves state lawful j new x y bodies copied x_is y_is ready torn =
     subst (λ d. EveryPair Q (state (disk_a j)) (state (disk_b j)) (state (cond (not j.swapped) y d)) (state (cond (not j.swapped) d y))) (sym x_is)
     (subst (λ d. EveryPair Q (state (disk_a j)) (state (disk_b j)) (state (cond (not j.swapped) d new)) (state (cond (not j.swapped) new d))) (sym y_is) run)
   where
-    turned : (swapped : Bool) (Q : List ℕ → List ℕ → Type 0) (a b : State) → EveryPair Q a b (state (cond swapped new j.current)) (state (cond swapped j.current new)) → EveryPair Q a b (state (cond (not swapped) j.current new)) (state (cond (not swapped) new j.current))
+    turned : (swapped : Bool) (Q : List ℕ → List ℕ → Type 0) (a b : State)
+        → EveryPair Q a b (state (cond swapped new j.current)) (state (cond swapped j.current new))
+        → EveryPair Q a b (state (cond (not swapped) j.current new))
+        (state (cond (not swapped) new j.current))
     turned true Q a b run = run
     turned false Q a b run = run
 
 -- the live gate of a disk on which all stands is opened
-pub live_journal : (h : Header) (bodies : List (List ℕ)) (end : ℕ) (old new : State) → IsJournal h 0 bodies end old → IsDurable new → new.read ≡ written old.read 24 (1 ∷ []) → IsJournal h 1 bodies end new
+pub live_journal : (h : Header) (bodies : List (List ℕ)) (end : ℕ) (old new : State)
+    → IsJournal h 0 bodies end old → IsDurable new → new.read ≡ overwrite old.read 24 (1 ∷ [])
+    → IsJournal h 1 bodies end new
 live_journal h bodies end old new j durable is = record {
   durable = durable;
   stands = record {
     blocks = j.stands.blocks;
     whole = j.stands.whole;
     are = j.stands.are;
-    closed = (j.stands.closed.0, is ∙ written_gate (head h) (flat_map block j.stands.blocks ++ (0 ∷ j.stands.closed.0)) old.read 24 0 (split h bodies old.read j.stands) refl 1 ∙ sym (append_assoc (head h) (1 ∷ flat_map block j.stands.blocks) (0 ∷ j.stands.closed.0)));
+    closed = (
+      j.stands.closed.0,
+      is
+          ∙ written_gate (head h) (flat_map block j.stands.blocks ++ (0 ∷ j.stands.closed.0)) old.read
+          24 0 (split h bodies old.read j.stands) refl 1
+          ∙ sym (append_assoc (head h) (1 ∷ flat_map block j.stands.blocks) (0 ∷ j.stands.closed.0)),
+    );
   };
   ends = length-append (head h) (1 ∷ flat_map block j.stands.blocks) ∙ sym (length-append (head h) (0 ∷ flat_map block j.stands.blocks)) ∙ j.ends;
 }

@@ -2,7 +2,7 @@
 use Rattle.std.proofs.Common.{◌≡◌, ◌≢◌, inl, inr, ⊎_elim, ℕ, Bool, true, false, cond, List, [], ◌∷◌, ◌++◌, take, refl, sym, ◌∙◌, subst, append_assoc}
 use Rattle.std.specs.List.{flat_map}
 use Rattle.ts_disk.specs.Disk.{State, IsDisk, IsDurable, EveryImage}
-use Rattle.ts_journal.specs.Gate.{Opened}
+use Rattle.ts_journal.specs.Gate.{HasOpenGate}
 use Rattle.ts_journal.specs.Images.{Header, Member, member_of, IsRight, head, block, IsBody, Stands, IsShut, Behind, InUse, OpensFrom, BeforeOrAfter, EveryPair, entry}
 use Rattle.ts_journal.specs.Settled.{next, IsSpare, header_of, member_in, Holds, disk_a, disk_b}
 use Rattle.ts_journal.specs.declared.journal.Journal.{Journal}
@@ -47,7 +47,10 @@ used_moves state true old new spare P Q is durable run first second ca cb left_a
 used_moves state false old new spare P Q is durable run first second ca cb left_a left_b =
     subst (λ c. Q ca c) (sym (still (state spare) is durable cb left_b)) (first ca (run.each ca left_a) refl)
 
-pub from : (member : Member) (swapped : Bool) (bodies : List (List ℕ)) (image other : List ℕ) → InUse member bodies image other → (swapped ≡ false → OpensFrom member swapped bodies image other) × (swapped ≡ true → OpensFrom member swapped bodies other image)
+pub from : (member : Member) (swapped : Bool) (bodies : List (List ℕ)) (image other : List ℕ)
+    → InUse member bodies image other
+    → (swapped ≡ false → OpensFrom member swapped bodies image other)
+    × (swapped ≡ true → OpensFrom member swapped bodies other image)
 from member true bodies image other used = ((λ is. absurd (cc is)), (λ is. used))
 from member false bodies image other used = ((λ is. used), (λ is. absurd (cc is)))
 
@@ -55,7 +58,9 @@ in_use : (h : Header) (live : ℕ) (bodies : List (List ℕ)) (image other : Lis
 in_use h live bodies image other right wide behind stands = record { header = h; owner = refl; right = right; live = live; is_live = wide; stands = stands; behind = behind }
 
 -- at each moment of an append to the disk in use
-pub moves : {D : Type 0} (state : D → State) → ((d : D) → IsDisk (state d)) → (j : Journal D) (new : D) (bodies copied : List (List ℕ)) (body octets : List ℕ) → octets ≡ entry body → Holds state bodies copied j → IsBody body
+pub moves : {D : Type 0} (state : D → State) → ((d : D) → IsDisk (state d))
+    → (j : Journal D) (new : D) (bodies copied : List (List ℕ)) (body octets : List ℕ)
+    → octets ≡ entry body → Holds state bodies copied j → IsBody body
     → EveryImage (Appends j.end octets (state j.current).read) (state j.current) (state new)
     → EveryPair (BeforeOrAfter (member_in j) j.swapped bodies body) (state (disk_a j)) (state (disk_b j)) (state (cond j.swapped j.spare new)) (state (cond j.swapped new j.spare))
 moves state lawful j new bodies copied body octets are holds fits run =
@@ -63,8 +68,18 @@ moves state lawful j new bodies copied body octets are holds fits run =
     let behind = spare_behind j.stage h copied j.copy_end (state j.spare) holds.spare in
     let durable = spare_durable j.stage h copied j.copy_end (state j.spare) holds.spare in
     let after = bodies ++ body ∷ [] in
-    let used = λ (bs : List (List ℕ)) (c : List ℕ) (stands : Stands h holds.live bs c). from (member_in j) j.swapped bs c (state j.spare).read (in_use h holds.live bs c (state j.spare).read holds.right holds.is_live behind stands) in
-    let opens = λ (c : List ℕ) (wide : Opened (take j.end (state j.current).read) octets c). stands_after h holds.live bodies body j.end (state j.current) c holds.journal fits (subst (λ t. Opened (take j.end (state j.current).read) t c) are wide) in
+    let used = λ (bs : List (List ℕ)) (c : List ℕ) (stands : Stands h holds.live bs c). from
+    (member_in j) j.swapped bs c (state j.spare).read
+    (in_use h holds.live bs c (state j.spare).read holds.right holds.is_live behind stands) in
+    let opens = λ (c : List ℕ) (wide : HasOpenGate (take j.end (state j.current).read) octets c).
+    stands_after h holds.live bodies body j.end (state j.current) c holds.journal fits
+    (subst (λ t. HasOpenGate (take j.end (state j.current).read) t c) are wide) in
     used_moves state j.swapped j.current new j.spare (Appends j.end octets (state j.current).read) (BeforeOrAfter (member_in j) j.swapped bodies body) (lawful j.spare) durable run
-    (λ c either is. ⊎_elim (λ shut. inl ((used bodies c (stands_before h holds.live bodies j.end (state j.current) c holds.journal shut)).0 is)) (λ wide. inr ((used after c (opens c wide)).0 is)) either)
-    (λ c either is. ⊎_elim (λ shut. inl ((used bodies c (stands_before h holds.live bodies j.end (state j.current) c holds.journal shut)).1 is)) (λ wide. inr ((used after c (opens c wide)).1 is)) either)
+    (λ c either is. ⊎_elim
+    (λ shut. inl ((used bodies c
+    (stands_before h holds.live bodies j.end (state j.current) c holds.journal shut)).0 is))
+    (λ wide. inr ((used after c (opens c wide)).0 is)) either)
+    (λ c either is. ⊎_elim
+    (λ shut. inl ((used bodies c
+    (stands_before h holds.live bodies j.end (state j.current) c holds.journal shut)).1 is))
+    (λ wide. inr ((used after c (opens c wide)).1 is)) either)

@@ -1,8 +1,10 @@
 -- What the steps of a rewrite leave on the other disk.
-use Rattle.std.proofs.Common.{Result, Ok, Err, OnOk, ◌≡◌, inl, inr, ℕ, ◌+◌, ◌≤◌, List, [], ◌∷◌, ◌++◌, length, get_or, take, drop, refl, sym, ◌∙◌, ap, subst, arith, length-append, length-take, take-append-drop}
+use Rattle.std.proofs.Common.{Result, Ok, Err, OnOk, ◌≡◌, inl, inr, ℕ, ◌+◌, ◌≤◌, List, [], ◌∷◌}
+use Rattle.std.proofs.Common.{◌++◌, length, get_or, take, drop, refl, sym, ◌∙◌, ap, subst, arith}
+use Rattle.std.proofs.Common.{length-append, length-take, take-append-drop}
 use Rattle.std.proofs.lemmas.List.{drop_at}
 use Rattle.std.proofs.lemmas.Bool.{cases_eq}
-use Rattle.ts_disk.specs.Disk.{State, IsDisk, IsDurable, Call, Same, Torn, written, EveryImage}
+use Rattle.ts_disk.specs.Disk.{State, IsDisk, IsDurable, Call, Same, Torn, overwrite, EveryImage}
 use Rattle.ts_journal.specs.Images.{Header, at_generation, head, IsShut, IsEarlier, Behind, Begins}
 use Rattle.ts_journal.proofs.Gates.{torn_behind, written_behind, torn_gate, written_gate}
 use Rattle.ts_journal.proofs.Moments.{started, goes_on}
@@ -17,7 +19,7 @@ torn_shut h image c is torn =
       | inr wide ↦ inr (is.0, get_or c 24 0, is.2, is.3, wide, is.5, torn_is)
     ]
 
-pub written_shut : (h : Header) (image : List ℕ) → IsEarlier h image → IsShut (written image 24 (0 ∷ []))
+pub written_shut : (h : Header) (image : List ℕ) → IsEarlier h image → IsShut (overwrite image 24 (0 ∷ []))
 written_shut h image is = (head (at_generation h is.0), refl, (is.2, written_gate (head (at_generation h is.0)) is.2 image 24 is.1 is.6 refl 0))
 
 -- the octets before a closed live gate are torn
@@ -34,14 +36,14 @@ torn_rest image c n is torn = (is.0, is.1, torn_behind is.0 is.2.0 image 24 is.2
 pub long : (image : List ℕ) → IsShut image → 25 ≤ length image
 long image is = omega (arith, ap length is.2.1, length-append is.0 (0 ∷ is.2.0), is.1)
 
-headed : (octets image : List ℕ) → length octets ≡ 24 → (is : IsShut image) → written image 0 octets ≡ octets ++ (0 ∷ is.2.0)
+headed : (octets image : List ℕ) → length octets ≡ 24 → (is : IsShut image) → overwrite image 0 octets ≡ octets ++ (0 ∷ is.2.0)
 headed octets image sized is =
     let n : 0 + length octets ≡ 24 = omega (arith, sized) in
     ap (λ n. octets ++ drop n image) n ∙ ap (λ l. octets ++ l) (ap (drop 24) is.2.1 ∙ drop_at is.0 (0 ∷ is.2.0) 24 is.1)
 
-pub begins : (octets text image : List ℕ) → length octets ≡ 24 → IsShut image → Begins octets text (written (written image 0 octets) 25 text)
+pub begins : (octets text image : List ℕ) → length octets ≡ 24 → IsShut image → Begins octets text (overwrite (overwrite image 0 octets) 25 text)
 begins octets text image sized is =
-    (drop (25 + length text) (written image 0 octets), written_behind octets is.2.0 (written image 0 octets) 24 (headed octets image sized is) sized text)
+    (drop (25 + length text) (overwrite image 0 octets), written_behind octets is.2.0 (overwrite image 0 octets) 24 (headed octets image sized is) sized text)
 
 -- each image is shut, from the first write on
 pub record Shut (old new : State) : Type 0 where

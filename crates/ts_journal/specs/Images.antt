@@ -5,7 +5,7 @@ use Rattle.std.specs.Prelude.{◌++◌, length, map}
 use Rattle.std.specs.List.{flat_map, AllByRecursion}
 use Rattle.std.specs.Int.{to_be_bytes, w32, w64}
 use Rattle.ts_disk.specs.Disk.{State, IsDurable}
-use Rattle.ts_journal.specs.Gate.{Closed}
+use Rattle.ts_journal.specs.Gate.{HasClosedGate}
 
 -- whose journal it is, of how many nodes and of which group, and how often it was rewritten
 pub record Header : Type 0 where
@@ -55,7 +55,7 @@ abbrev pub block : Block → List ℕ
 block b = b.gate ∷ (to_be_bytes w32 (length b.body) ++ b.body)
 
 -- its gate is open, and its body has a length that a body may have
-pub record IsWhole (b : Block) : Type 0 where
+pub record IsWholeBlock (b : Block) : Type 0 where
   pub is_open : b.gate ≢ 0
   pub fits : IsBody b.body
 
@@ -71,13 +71,13 @@ front h live blocks = head h ++ (live ∷ flat_map block blocks)
 -- meaning.
 pub record Stands (h : Header) (live : ℕ) (bodies : List (List ℕ)) (image : List ℕ) : Type 0 where
   pub blocks : List Block
-  pub whole : AllByRecursion IsWhole blocks
+  pub whole : AllByRecursion IsWholeBlock blocks
   pub are : bodies_in blocks ≡ bodies
-  pub closed : Closed (front h live blocks) image
+  pub closed : HasClosedGate (front h live blocks) image
 
 -- its live gate is closed: nothing else of it is looked at
 abbrev pub IsShut : List ℕ → Type 0
-IsShut image = (octets : List ℕ) × (length octets ≡ 24) × Closed octets image
+IsShut image = (octets : List ℕ) × (length octets ≡ 24) × HasClosedGate octets image
 
 -- it is live, the same node's, of an earlier generation
 abbrev pub IsEarlier : Header → List ℕ → Type 0
@@ -143,7 +143,7 @@ pub record IsFresh (disk : State) : Type 0 where
 
 -- a text is these blocks, and a closed gate after them
 pub record IsText (blocks : List Block) (text : List ℕ) : Type 0 where
-  pub whole : AllByRecursion IsWhole blocks
+  pub whole : AllByRecursion IsWholeBlock blocks
   pub is : text ≡ flat_map block blocks ++ 0 ∷ []
 
 -- a pair of images that opens, as the journal of any member, opens to these bodies: there are all

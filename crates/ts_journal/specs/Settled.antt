@@ -1,7 +1,8 @@
 -- What is true of a journal between two calls.
 use Rattle.std.specs.Prelude.{◌≡◌, ◌≢◌, ◌⊎◌, ◌+◌, ◌<◌, ◌^◌, ℕ, List, length, cond}
 use Rattle.ts_disk.specs.Disk.{State, IsDurable, DeviceFailed}
-use Rattle.ts_journal.specs.Images.{Header, Member, member_of, at_generation, IsRight, Stands, front, IsShut}
+use Rattle.ts_journal.specs.Images.{Header, Member, member_of, at_generation, IsRight, Stands}
+use Rattle.ts_journal.specs.Images.{front, IsShut}
 use Rattle.ts_journal.specs.Images.{IsEarlier, EveryPair}
 use Rattle.ts_journal.specs.declared.journal.Journal.{Journal}
 use Rattle.ts_journal.specs.declared.journal.Stage.{Stage}

@@ -3,7 +3,8 @@
 ghost use Rattle.std.specs.Prelude.{◌≡◌, ◌≢◌, true, false, ◌≤◌, ◌<◌, ◌^◌, ◌++◌, ◌∷◌, ℕ, List};
 ghost use Rattle.std.specs.Prelude.{length, IfSome, IfNone};
 ghost use Rattle.ts_journal.specs.Images.{Header, head};
-ghost use Rattle.ts_journal.specs.Choice.{header_of_owner, LooksLike, choice_of, is_same_owner, IsChosen};
+ghost use Rattle.ts_journal.specs.Choice.{header_of_owner, LooksLike, choice_of, is_same_owner};
+ghost use Rattle.ts_journal.specs.Choice.{IsChosen};
 ghost use Rattle.ts_journal.specs.Choice.{Unchosen};
 
 use crate::Stage;

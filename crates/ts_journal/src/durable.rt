@@ -3,7 +3,7 @@
 ghost use Rattle.std.specs.Prelude.{◌≡◌, ◌≤◌, ◌⊎◌, length, take, OnOk, IfErr};
 ghost use Rattle.ts_disk.specs.declared.fault.DiskFault.TheVariants.{Failed};
 ghost use Rattle.ts_disk.specs.Disk.{IsDurable, HasCause, EveryImage};
-ghost use Rattle.ts_journal.specs.Gate.{Closed, Opened};
+ghost use Rattle.ts_journal.specs.Gate.{HasClosedGate, HasOpenGate};
 
 use ts_disk::{Disk, DiskFault, put};
 
@@ -11,13 +11,13 @@ use ts_disk::{Disk, DiskFault, put};
 /// byte is clear, or it is set and the whole text follows it.
 pub(crate) fn extend<D: Disk>(disk: &mut D, end: usize, text: &[u8]) -> Result<(), DiskFault>
     requires durable { IsDurable (D.state disk.old) }
-    requires closed { Closed (take end (D.state disk.old).read) (D.state disk.old).read }
+    requires closed { HasClosedGate (take end (D.state disk.old).read) (D.state disk.old).read }
     ensures durable { OnOk result (IsDurable (D.state disk.new)) }
-    ensures opened { OnOk result (Opened (take end (D.state disk.old).read) text.now
+    ensures opened { OnOk result (HasOpenGate (take end (D.state disk.old).read) text.now
         (D.state disk.new).read) }
     ensures moments { EveryImage
-        (λ image. Closed (take end (D.state disk.old).read) image
-        ⊎ Opened (take end (D.state disk.old).read) text.now image)
+        (λ image. HasClosedGate (take end (D.state disk.old).read) image
+        ⊎ HasOpenGate (take end (D.state disk.old).read) text.now image)
         (D.state disk.old) (D.state disk.new) }
     ensures fault { IfErr result (λ fault. fault ≡ Failed) }
     ensures cause { HasCause (D.state disk.old) (D.state disk.new) result }

@@ -4,8 +4,10 @@ ghost use Rattle.std.specs.Prelude.{◌≡◌, ◌⊎◌, ◌++◌, ◌<◌, ◌
 ghost use Rattle.std.specs.Prelude.{cond, OnOk, OnErr, IfErr};
 ghost use Rattle.ts_disk.specs.declared.fault.DiskFault.TheVariants.{Failed};
 ghost use Rattle.ts_journal.specs.Choice.{header_of_owner};
-ghost use Rattle.ts_journal.specs.Images.{IsBody, at_generation, entry, OpensFrom, BeforeOrAfter, OneOrOther};
-ghost use Rattle.ts_journal.specs.Settled.{Holds, IsSettled, header_of, member_in, EveryMoment, OneFailed};
+ghost use Rattle.ts_journal.specs.Images.{IsBody, at_generation, entry, OpensFrom, BeforeOrAfter};
+ghost use Rattle.ts_journal.specs.Images.{OneOrOther};
+ghost use Rattle.ts_journal.specs.Settled.{Holds, IsSettled, header_of, member_in, EveryMoment};
+ghost use Rattle.ts_journal.specs.Settled.{OneFailed};
 ghost use Rattle.ts_journal.specs.declared.journal.Stage.TheVariants.{Live, Closed, Begun, Copying};
 
 use crate::choice::Owner;

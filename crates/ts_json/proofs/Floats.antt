@@ -95,7 +95,10 @@ none_to_of : (f : VerdictFields) → members_have_float (to_of f) ≡ false
 none_to_of f = put_none (codes "of") (number (unsigned f.of)) (to_valid f) refl (put_none (codes "valid") (boolean f.valid) (failing_in f) refl (failing f))
 
 none_to_policies : (f : VerdictFields) → members_have_float (to_policies f) ≡ false
-none_to_policies f = put_none (codes "policies") (array_of (map string_bytes f.policies.items)) (to_explanation f) (of_texts (map string_bytes f.policies.items)) (put_none (codes "explanation") (string (string_bytes f.explanation)) (to_of f) refl (none_to_of f))
+none_to_policies f = put_none (codes "policies") (array_of (map string_bytes f.policies.items))
+    (to_explanation f) (of_texts (map string_bytes f.policies.items))
+    (put_none (codes "explanation") (string (string_bytes f.explanation)) (to_of f) refl
+    (none_to_of f))
 
 none_to_anchor : (f : VerdictFields) → members_have_float (to_anchor f) ≡ false
 none_to_anchor f = put_none (codes "anchor") (string (string_bytes f.anchor)) (to_policies f) refl (none_to_policies f)

@@ -9,8 +9,8 @@ use Rattle.ts_json.specs.declared.member.Plain.TheVariants.{Flag, Number, Text, 
 use Rattle.ts_json.specs.declared.member.Member.{Member}
 
 -- a name, and a value
-abbrev pub Named : Type 0
-Named = List ℕ × Data
+abbrev pub NamedValue : Type 0
+NamedValue = List ℕ × Data
 
 abbrev pub data_of : Plain → Data
 data_of (Flag flag) = flag_or_null flag
@@ -19,21 +19,21 @@ data_of (Text text) = text_or_null (option_map string_bytes text)
 data_of (Texts texts) = array_of (map string_bytes texts.items)
 data_of (Numbers numbers) = numbers_of numbers.items
 
-abbrev pub named : Member → Named
-named member = (member.name.now, data_of member.value)
+abbrev pub named_value : Member → NamedValue
+named_value member = (member.name.now, data_of member.value)
 
 -- further members, one after another: of two with one name the later one counts
-abbrev pub put_all : List Named → Members → Members
+abbrev pub put_all : List NamedValue → Members → Members
 put_all [] members = members
 put_all (one ∷ others) members = put_all others (put one.0 one.1 members)
 
-abbrev pub members_of : List Named → Members
+abbrev pub members_of : List NamedValue → Members
 members_of all = put_all all no_members
 
-abbrev pub object_of : List Named → Data
+abbrev pub object_of : List NamedValue → Data
 object_of all = object (members_of all)
 
 -- the members, and the rows under their name
-abbrev pub page_of : List Named → List (List Named) → Data
+abbrev pub page_of : List NamedValue → List (List NamedValue) → Data
 page_of all rows =
     object (put (codes "rows") (array (items_of (map object_of rows))) (members_of all))

@@ -3,7 +3,7 @@
 ghost use Rattle.std.specs.Prelude.{◌≡◌, IfOk, map, string_bytes};
 ghost use Rattle.serde_json.specs.View.{members_view, view};
 ghost use Rattle.serde_json.specs.Written.{compact_text};
-ghost use Rattle.ts_json.specs.Members.{data_of, members_of, named, object_of, page_of};
+ghost use Rattle.ts_json.specs.Members.{data_of, members_of, named_value, object_of, page_of};
 
 use crate::value::{array_of, flag_or_null, number_or_null, numbers_of, text_or_null};
 use serde_json::{Map, Value, put};
@@ -41,7 +41,7 @@ fn value_of(alloc: Global, plain: &Plain) -> Result<Value, AllocError>
 
 /// The members, as a map.
 fn map_of(alloc: Global, members: &[Member]) -> Result<Map<String, Value>, AllocError>
-    ensures { IfOk result (λ m. members_view m.entries ≡ members_of (map named members.now)) }
+    ensures { IfOk result (λ m. members_view m.entries ≡ members_of (map named_value members.now)) }
 {
     let mut all = Map::new(alloc);
     for member in members {
@@ -59,7 +59,7 @@ fn map_of(alloc: Global, members: &[Member]) -> Result<Map<String, Value>, Alloc
 /// Out of memory.
 pub fn members_text(alloc: Global, members: &[Member]) -> Result<String, AllocError>
     ensures { IfOk result (λ text. string_bytes text
-        ≡ compact_text (object_of (map named members.now))) }
+        ≡ compact_text (object_of (map named_value members.now))) }
 {
     let map = map_of(alloc, members)?;
     Value::Object(map).to_string(alloc)
@@ -68,7 +68,7 @@ pub fn members_text(alloc: Global, members: &[Member]) -> Result<String, AllocEr
 /// Objects, as values.
 fn objects_of(alloc: Global, rows: &[Vec<Member>]) -> Result<Vec<Value>, AllocError>
     ensures { IfOk result (λ values. map view values.items
-        ≡ map (λ row. object_of (map named row.items)) rows.now) }
+        ≡ map (λ row. object_of (map named_value row.items)) rows.now) }
 {
     let mut values = Vec::new(alloc);
     for row in rows {
@@ -90,7 +90,7 @@ pub fn page_text(
     rows: &[Vec<Member>],
 ) -> Result<String, AllocError>
     ensures { IfOk result (λ text. string_bytes text ≡ compact_text
-        (page_of (map named members.now) (map (λ row. map named row.items) rows.now))) }
+        (page_of (map named_value members.now) (map (λ row. map named_value row.items) rows.now))) }
 {
     let mut all = map_of(alloc, members)?;
     let values = objects_of(alloc, rows)?;

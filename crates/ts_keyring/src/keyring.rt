@@ -57,7 +57,7 @@ pub fn read_key_file<R: Files>(
 }
 
 /// When a file was changed last, if the system says so.
-fn changed<R: Files>(rt: &R, path: &str) -> Option<SystemTime> {
+fn time_of_change<R: Files>(rt: &R, path: &str) -> Option<SystemTime> {
     fs::metadata(rt, path).ok()?.modified().ok()
 }
 
@@ -79,7 +79,7 @@ impl Keyring {
     ///
     /// Those of [`read_key_file`].
     pub fn read<R: Files>(rt: &R, alloc: Global, path: &str) -> Result<Keyring, KeyFileFault> {
-        let changed = changed(rt, path);
+        let changed = time_of_change(rt, path);
         Ok(Keyring {
             path: String::from_str(alloc, path)?,
             keys: read_key_file(rt, alloc, path)?,
@@ -101,7 +101,7 @@ impl Keyring {
         }
         self.looked = now;
         let path = self.path.as_str();
-        let changed = changed(rt, path);
+        let changed = time_of_change(rt, path);
         if changed == self.changed {
             return;
         }

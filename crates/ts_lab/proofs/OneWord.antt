@@ -3,7 +3,7 @@ use Rattle.std.proofs.Common.{◌≡◌, ◌≢◌, ◌∙◌, refl, sym, ap, su
 use Rattle.ts_script.specs.declared.cert_line.CertWords.{CertWords}
 use Rattle.ts_script.specs.declared.script.LineFault.{LineFault}
 use Rattle.ts_script.specs.declared.script.LineFault.TheVariants.{Unknown, Form, Name, Limit, Message, Memory}
-use Rattle.ts_script.specs.Known.{Entry, named}
+use Rattle.ts_script.specs.Known.{Entry, thing_named}
 use Rattle.ts_script.specs.CertLine.{cert_line, IsCertLine, IsMade, IsCertSaid, RefusesCert}
 use Rattle.ts_lab.specs.Says.{Kind, skipped, cert_kind, crl_kind, check_kind, node_kind, unknown_kind, SaysAs, RefusesAs}
 use Rattle.ts_script.proofs.Answering.{made_again, long_stands, read_stands}
@@ -14,8 +14,8 @@ same_name : (v w : CertWords) → cert_line v ≡ cert_line w → v.name.now ≡
 unfolding cert_line
 same_name v w same = cc
 
-free_again : (known : List Entry) (v w : CertWords) → cert_line v ≡ cert_line w → named known v.name.now ≡ None → named known w.name.now ≡ None
-free_again known v w same free = subst (λ (name : List ℕ). named known name ≡ None) (same_name v w same) free
+free_again : (known : List Entry) (v w : CertWords) → cert_line v ≡ cert_line w → thing_named known v.name.now ≡ None → thing_named known w.name.now ≡ None
+free_again known v w same free = subst (λ (name : List ℕ). thing_named known name ≡ None) (same_name v w same) free
 
 -- the words of a line make one certificate
 one_cert : (known : List Entry) (line : List ℕ) (v w : CertWords) (octets others : List ℕ) → IsCertLine line v → IsCertLine line w → IsMade v octets → IsMade w others → octets ≡ others

@@ -16,7 +16,7 @@ use Rattle.ts_lab.specs.Script.{lines_of, Run}
 use Rattle.ts_lab.specs.declared.scanner.Stop.{Stop}
 use Rattle.ts_lab.specs.declared.scanner.Stop.TheVariants.{Wrong, Write}
 use Rattle.ts_script.specs.declared.script.LineFault.TheVariants.{Memory}
-use Rattle.ts_lab.specs.Scanner.{Ends, Owes, Scans, Finishes, HasSaid}
+use Rattle.ts_lab.specs.inside.Scanner.{Ends, Owes, Scans, Finishes, HasSaid}
 
 -- a line that has ended
 pub line_ended : (line : List ℕ) (lines : List (List ℕ)) → all_onto_first line ([] ∷ lines) ≡ line ∷ lines

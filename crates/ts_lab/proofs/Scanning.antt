@@ -12,11 +12,11 @@ use Rattle.ts_script.specs.Known.{Entry, known_in}
 use Rattle.ts_lab.specs.Says.{Says, Refuses}
 use Rattle.ts_lab.specs.Script.{Run}
 use Rattle.ts_script.specs.Pieces.{onto_first, all_onto_first}
-use Rattle.ts_lab.specs.Lab.{IsRead, IsStep, done_in, fed_in}
+use Rattle.ts_lab.specs.inside.Lab.{IsRead, IsStep, done_in, fed_in}
 use Rattle.ts_lab.specs.declared.stream.StreamFault.{StreamFault}
-use Rattle.ts_lab.specs.declared.scanner.Step.{Step}
-use Rattle.ts_lab.specs.declared.scanner.Step.TheVariants.{More}
-use Rattle.ts_lab.specs.Scanner.{Ends, Owes, Scans, Finishes, Closes, IsScanOf}
+use Rattle.ts_lab.specs.declared.scanner.ScanStep.{ScanStep}
+use Rattle.ts_lab.specs.declared.scanner.ScanStep.TheVariants.{More}
+use Rattle.ts_lab.specs.inside.Scanner.{Ends, Owes, Scans, Finishes, Closes, IsScanOf}
 use Rattle.ts_lab.proofs.Reading.{scans_begun, scans_forgotten}
 
 -- an octet was taken, or there was no memory for it
@@ -86,7 +86,7 @@ read_to_end old (Some l) None (Some xs) start before after wrong took end h scan
 read_to_end old (Some l) (Some m) (Some xs) start before after wrong took end h scan =
     scan after wrong (subst (λ l. Ends old.number (known_in old.known) old.line.items before l after wrong) (sym (took ∙ end)) h)
 
-pub step_done : (T : Type 0) (r : Result T Stop) (q : Result Step StreamFault) (old new : Scanner) (left now before after : Option (List ℕ)) → q ≡ done_in r
+pub step_done : (T : Type 0) (r : Result T Stop) (q : Result ScanStep StreamFault) (old new : Scanner) (left now before after : Option (List ℕ)) → q ≡ done_in r
     → Consumes left now [] → IsAtEnd now → Closes {T = T} old before after r → IsStep left now before after old new q
 step_done T (Ok u) q old new left now before after is took end h =
     subst (IsStep left now before after old new) (sym is) (λ script start scan. read_to_end old left now script start before after None took end h scan)
@@ -114,7 +114,7 @@ read_on old new (Some l) None (Some xs) start before after piece took h scan = a
 read_on old new (Some l) (Some m) (Some xs) start before after piece took h scan = λ whole wrong e.
     scan whole wrong (subst (λ l. Ends old.number (known_in old.known) old.line.items before l whole wrong) (sym took) (h m whole wrong e))
 
-pub step_fed : (T : Type 0) (r : Result T Stop) (q : Result Step StreamFault) (old new : Scanner) (left now before after : Option (List ℕ)) (piece : List ℕ) → q ≡ fed_in r
+pub step_fed : (T : Type 0) (r : Result T Stop) (q : Result ScanStep StreamFault) (old new : Scanner) (left now before after : Option (List ℕ)) (piece : List ℕ) → q ≡ fed_in r
     → Consumes left now piece → Scans {T = T} old new before after piece r → IsStep left now before after old new q
 step_fed T (Ok u) q old new left now before after piece is took h =
     subst (IsStep left now before after old new) (sym is) (λ script start scan. read_on old new left now script start before after piece took h scan)
@@ -127,7 +127,7 @@ idle_unknown s None m start before scan = tt
 idle_unknown s (Some xs) m start before scan = absurd scan
 
 -- nothing was read
-pub step_idle : (q : Result Step StreamFault) (s : Scanner) (left now before : Option (List ℕ)) → q ≡ Ok More → Keeps left now → IsStep left now before before s s q
+pub step_idle : (q : Result ScanStep StreamFault) (s : Scanner) (left now before : Option (List ℕ)) → q ≡ Ok More → Keeps left now → IsStep left now before before s s q
 step_idle q s None None before is keeps = subst (IsStep None None before before s s) (sym is) (λ script start scan. scan)
 step_idle q s None (Some m) before is keeps = subst (IsStep None (Some m) before before s s) (sym is) (λ script start scan. idle_unknown s script m start before scan)
 step_idle q s (Some l) None before is keeps = absurd keeps

@@ -1,5 +1,4 @@
-pub mod Member
 pub mod Says
 pub mod Script
-pub mod Scanner
 pub mod Lab
+pub mod inside

@@ -1,10 +1,10 @@
 //! The questions of `ask` and `search` lines, and the words of their replies.
 
-ghost use Rattle.ts_lab.specs.Member.{InputIsFit};
+ghost use Rattle.ts_lab.specs.inside.Member.{InputIsFit};
 
 use crate::commands::{certificate, digest_of};
 use crate::member::{NodeInput, NodeReply};
-use crate::node_line::Asked;
+use crate::node_line::AskedLine;
 use crate::text::{found_text, not_yet_text, reply_text};
 use std::alloc::{AllocError, Global};
 use ts_node::{Input, Reply};
@@ -14,10 +14,10 @@ use ts_script::{LineFault, Options, Symbols};
 use ts_time::Moment;
 
 /// The first word of the answer to a question.
-pub(crate) fn word_of(asked: &Asked<'_>) -> &'static str {
+pub(crate) fn word_of(asked: &AskedLine<'_>) -> &'static str {
     match asked {
-        Asked::Chain { .. } => "ask",
-        Asked::Search { .. } => "search",
+        AskedLine::Chain { .. } => "ask",
+        AskedLine::Search { .. } => "search",
     }
 }
 
@@ -68,17 +68,17 @@ pub(crate) fn question_of(
     known: &Symbols,
     moment: Moment,
     options: Options,
-    asked: &Asked<'_>,
+    asked: &AskedLine<'_>,
 ) -> Result<Question, LineFault> {
     let terms = terms_of(alloc, moment, options);
     let mut certificates = Vec::new(alloc);
     let question = match asked {
-        Asked::Chain { anchor, names } => {
+        AskedLine::Chain { anchor, names } => {
             let anchor = digest_of(certificate(known, anchor)?);
             push_named(alloc, known, Some(names), &mut certificates)?;
             Question::chain(terms, anchor, certificates)
         }
-        Asked::Search { leaf, pool } => {
+        AskedLine::Search { leaf, pool } => {
             push_named(alloc, known, Some(leaf), &mut certificates)?;
             push_named(alloc, known, *pool, &mut certificates)?;
             Question::search(terms, certificates)
@@ -88,8 +88,8 @@ pub(crate) fn question_of(
 }
 
 /// The name at a place of a search, which is 1 for the leaf.
-fn name_at<'a>(asked: &Asked<'a>, place: u8) -> Option<&'a [u8]> {
-    let Asked::Search { leaf, pool } = asked else {
+fn name_at<'a>(asked: &AskedLine<'a>, place: u8) -> Option<&'a [u8]> {
+    let AskedLine::Search { leaf, pool } = asked else {
         return None;
     };
     if place == 1 {
@@ -105,7 +105,7 @@ fn name_at<'a>(asked: &Asked<'a>, place: u8) -> Option<&'a [u8]> {
 }
 
 /// The names at places, each after a space.
-fn names_text(alloc: Global, asked: &Asked<'_>, places: &[u8]) -> Result<String, AllocError> {
+fn names_text(alloc: Global, asked: &AskedLine<'_>, places: &[u8]) -> Result<String, AllocError> {
     let mut text = String::new(alloc);
     for place in places {
         text.push_str(" ")?;
@@ -119,7 +119,7 @@ fn names_text(alloc: Global, asked: &Asked<'_>, places: &[u8]) -> Result<String,
 fn words_of(
     alloc: Global,
     known: &Symbols,
-    asked: &Asked<'_>,
+    asked: &AskedLine<'_>,
     reply: &Words,
 ) -> Result<String, AllocError> {
     let Words::Found {
@@ -144,7 +144,7 @@ fn words_of(
 pub(crate) fn answer_text(
     alloc: Global,
     known: &Symbols,
-    asked: &Asked<'_>,
+    asked: &AskedLine<'_>,
     reply: &NodeReply,
 ) -> Result<String, AllocError> {
     let word = word_of(asked);

@@ -1,6 +1,6 @@
 //! The commands of `submit` lines.
 
-use crate::node_line::Wanted;
+use crate::node_line::WantedLine;
 use sha2::{Digest, Sha256};
 use std::alloc::Global;
 use ts_octets::Octets;
@@ -41,27 +41,27 @@ pub(crate) fn command_of(
     alloc: Global,
     known: &Symbols,
     last: u8,
-    wanted: Wanted<'_>,
+    wanted: WantedLine<'_>,
 ) -> Result<Command, LineFault> {
     let id = id_of(last);
     match wanted {
-        Wanted::Add(name) => {
+        WantedLine::Add(name) => {
             let octets = Octets::copy_of(alloc, certificate(known, name)?)?;
             Command::add_anchor(id, octets).map_err(|_| LineFault::Limit)
         }
-        Wanted::Load(name) => {
+        WantedLine::Load(name) => {
             let octets = Octets::copy_of(alloc, list(known, name)?)?;
             Command::load_crl(id, octets).map_err(|_| LineFault::Limit)
         }
-        Wanted::Withdraw(name) => Ok(Command::WithdrawAnchor {
+        WantedLine::Withdraw(name) => Ok(Command::WithdrawAnchor {
             id,
             anchor: digest_of(certificate(known, name)?),
         }),
-        Wanted::Drop(name) => Ok(Command::DropCrl {
+        WantedLine::Drop(name) => Ok(Command::DropCrl {
             id,
             crl: digest_of(list(known, name)?),
         }),
-        Wanted::Purposes { name, oids } => {
+        WantedLine::Purposes { name, oids } => {
             let anchor = digest_of(certificate(known, name)?);
             let purposes = purposes_of(oids)?;
             Ok(Command::SetPurposes {
@@ -70,7 +70,7 @@ pub(crate) fn command_of(
                 purposes,
             })
         }
-        Wanted::Noop => Ok(Command::Noop { id }),
+        WantedLine::Noop => Ok(Command::Noop { id }),
     }
 }
 

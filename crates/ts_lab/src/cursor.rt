@@ -2,8 +2,9 @@
 
 ghost use Rattle.std.specs.Prelude.{◌<◌, IfOk};
 
+use ts_literal::number_of_octets;
 use ts_script::LineFault;
-use ts_script::words::{SPACE, first_piece, is_name, moment_of, number_of};
+use ts_script::words::{SPACE, first_piece, is_name, moment_of};
 use ts_time::Moment;
 
 /// The words of a line that are left.
@@ -44,7 +45,7 @@ impl<'a> Cursor<'a> {
 
     /// The next word as a number.
     pub fn number(&mut self) -> Result<u32, LineFault> {
-        number_of(self.next()?).ok_or(LineFault::Form)
+        number_of_octets(self.next()?).ok_or(LineFault::Form)
     }
 
     /// The next word as a name.

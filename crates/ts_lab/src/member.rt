@@ -1,18 +1,19 @@
 //! A node of a script.
 
 ghost use Rattle.std.specs.Prelude.{◌≤◌};
-ghost use Rattle.ts_lab.specs.Member.{InputIsFit};
+ghost use Rattle.ts_lab.specs.inside.Member.{InputIsFit};
 
 use std::alloc::Global;
 use std::marker::Model;
 use ts_answer::Answers;
 use ts_disk::MemDisk;
-use ts_node::{Input, Node, NodeFault, Output, Reply};
+use ts_node::{Input, Node, Output, Reply};
 use ts_question::{Answer, Question};
 use ts_record::Record;
 use ts_script::LineFault;
 use ts_sig::DigestCheck;
 use ts_store::{Command, Outcome};
+use ts_synod::NodeFault;
 
 pub(crate) type NodeInput = Input<Command, Question>;
 
@@ -26,7 +27,7 @@ pub(crate) struct Member {
 
 impl Model for Member {
     ghost use Rattle.std.specs.Prelude.{ℕ};
-    ghost use Rattle.ts_lab.specs.Member.{IsSoundNode};
+    ghost use Rattle.ts_lab.specs.inside.Member.{IsSoundNode};
 
     // No contract speaks of its content.
     ghost Value = { ℕ };
@@ -68,7 +69,7 @@ impl Member {
     /// # Errors
     ///
     /// `Memory`.
-    pub fn reopened(self, alloc: Global) -> Result<Member, LineFault> {
+    pub fn open_again(self, alloc: Global) -> Result<Member, LineFault> {
         let Member { node } = self;
         let (a, b, _machine) = node.close();
         Member::open(alloc, a, b)

@@ -1,10 +1,10 @@
 //! The nodes of a script, each on two disks in memory, and the messages that they have sent.
 
-ghost use Rattle.ts_lab.specs.Member.{InputIsFit};
+ghost use Rattle.ts_lab.specs.inside.Member.{InputIsFit};
 
 use crate::commands::id_of;
 use crate::member::{Member, NodeInput, NodeReply};
-use crate::sent::Sent;
+use crate::sent::SentMessage;
 use crate::trouble::Trouble;
 use std::alloc::{AllocError, Global};
 use ts_node::{Input, Reply};
@@ -23,7 +23,7 @@ const MAX_DELIVERIES: u32 = 100_000;
 pub struct Network {
     alloc: Global,
     members: Vec<Member>,
-    sent: Vec<Sent>,
+    sent: Vec<SentMessage>,
     /// Each message before this place was delivered.
     settled: usize,
     /// The last octets of the ids that were submitted.
@@ -74,7 +74,7 @@ impl Network {
     }
 
     /// The last octets of the ids that were submitted, each once.
-    pub fn submitted(&self) -> &[u8] {
+    pub fn submitted_ids(&self) -> &[u8] {
         &self.submitted
     }
 
@@ -93,7 +93,7 @@ impl Network {
     /// Keeps messages that were sent.
     fn post(&mut self, messages: Vec<Message<Command>>) -> Result<(), AllocError> {
         for message in messages {
-            if let Some(sent) = Sent::new(message) {
+            if let Some(sent) = SentMessage::new(message) {
                 self.sent.push(sent)?;
             }
         }
@@ -128,7 +128,7 @@ impl Network {
     fn undelivered(&mut self) -> Option<usize> {
         for place in self.settled..self.sent.len() {
             if let Some(
-                Sent {
+                SentMessage {
                     is_delivered: false,
                     ..
                 },
@@ -165,7 +165,7 @@ impl Network {
         if place >= self.members.len() {
             return Err(LineFault::Limit);
         }
-        let member = self.members.remove(place).reopened(self.alloc)?;
+        let member = self.members.remove(place).open_again(self.alloc)?;
         self.members.insert(place, member)?;
         Ok(())
     }

@@ -7,14 +7,15 @@ use crate::asking::{answer_text, input_of, question_of};
 use crate::commands::command_of;
 use crate::member::NodeReply;
 use crate::network::Network;
-use crate::node_line::{Asked, NodeLine, Wanted};
+use crate::node_line::{AskedLine, NodeLine, WantedLine};
 use crate::show::show;
 use crate::text::{fault_name, outcome_text};
 use crate::trouble::Trouble;
 use std::alloc::Global;
+use ts_literal::number_of_octets;
 use ts_node::{Input, Reply};
 use ts_record::Progress;
-use ts_script::words::{SPACE, first_piece, number_of};
+use ts_script::words::{SPACE, first_piece};
 use ts_script::{LineFault, Options, Symbols};
 use ts_time::Moment;
 
@@ -104,7 +105,7 @@ fn submit(
     network: &mut Network,
     node: u32,
     id: u8,
-    wanted: Wanted<'_>,
+    wanted: WantedLine<'_>,
 ) -> Result<String, Trouble> {
     let command = command_of(alloc, known, id, wanted)?;
     let place = network.check(node)?;
@@ -125,7 +126,7 @@ fn deliver(alloc: Global, network: &mut Network, numbers: &[u8]) -> Result<Strin
     let mut rest = Some(numbers);
     while let Some(left) = rest {
         let (word, behind) = first_piece(left, SPACE);
-        let Some(number) = number_of(word) else {
+        let Some(number) = number_of_octets(word) else {
             return Err(Trouble::Wrong(LineFault::Form));
         };
         network.deliver(number)?;
@@ -152,7 +153,7 @@ fn ask(
     node: u32,
     moment: Moment,
     options: Options,
-    asked: Asked<'_>,
+    asked: AskedLine<'_>,
 ) -> Result<String, Trouble> {
     let question = question_of(alloc, known, moment, options, &asked)?;
     let place = network.check(node)?;

@@ -11,7 +11,7 @@ use ts_time::Moment;
 
 /// The command of a `submit` line, with the names that it has.
 #[derive(Drop)]
-pub(crate) enum Wanted<'a> {
+pub(crate) enum WantedLine<'a> {
     Add(&'a [u8]),
     Withdraw(&'a [u8]),
     Load(&'a [u8]),
@@ -22,7 +22,7 @@ pub(crate) enum Wanted<'a> {
 
 /// What an `ask` or a `search` line asks about.
 #[derive(Drop)]
-pub(crate) enum Asked<'a> {
+pub(crate) enum AskedLine<'a> {
     /// A chain of these names, one or more, under an anchor.
     Chain {
         anchor: &'a [u8],
@@ -42,7 +42,7 @@ pub(crate) enum NodeLine<'a> {
     Submit {
         node: u32,
         id: u8,
-        wanted: Wanted<'a>,
+        wanted: WantedLine<'a>,
     },
     /// The numbers of messages, one or more.
     Deliver(&'a [u8]),
@@ -57,7 +57,7 @@ pub(crate) enum NodeLine<'a> {
         node: u32,
         moment: Moment,
         options: Options,
-        asked: Asked<'a>,
+        asked: AskedLine<'a>,
     },
     Show,
     Compact(u32),
@@ -105,15 +105,15 @@ fn read_submit<'a>(alloc: Global, words: &mut Cursor<'a>) -> Result<NodeLine<'a>
     let node = words.number()?;
     let id = words.id()?;
     let wanted = match words.next()? {
-        b"add" => Wanted::Add(words.name()?),
-        b"withdraw" => Wanted::Withdraw(words.name()?),
-        b"load" => Wanted::Load(words.name()?),
-        b"drop" => Wanted::Drop(words.name()?),
-        b"purposes" => Wanted::Purposes {
+        b"add" => WantedLine::Add(words.name()?),
+        b"withdraw" => WantedLine::Withdraw(words.name()?),
+        b"load" => WantedLine::Load(words.name()?),
+        b"drop" => WantedLine::Drop(words.name()?),
+        b"purposes" => WantedLine::Purposes {
             name: words.name()?,
             oids: read_purposes(alloc, words)?,
         },
-        b"noop" => Wanted::Noop,
+        b"noop" => WantedLine::Noop,
         _ => return Err(LineFault::Form),
     };
     words.end()?;
@@ -181,7 +181,7 @@ fn read_ask<'a>(alloc: Global, words: &mut Cursor<'a>) -> Result<NodeLine<'a>, L
     if !are_names(Some(names)) {
         return Err(LineFault::Form);
     }
-    let asked = Asked::Chain { anchor, names };
+    let asked = AskedLine::Chain { anchor, names };
     Ok(NodeLine::Ask {
         node,
         moment,
@@ -205,7 +205,7 @@ fn read_search<'a>(alloc: Global, words: &mut Cursor<'a>) -> Result<NodeLine<'a>
     if !are_names(pool) {
         return Err(LineFault::Form);
     }
-    let asked = Asked::Search { leaf, pool };
+    let asked = AskedLine::Search { leaf, pool };
     Ok(NodeLine::Ask {
         node,
         moment,

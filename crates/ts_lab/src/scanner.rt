@@ -4,7 +4,7 @@ ghost use Rattle.std.specs.Prelude.{◌≡◌, ◌≢◌, ◌++◌, IfErr, ◌+�
 ghost use Rattle.std.specs.Prelude.{OnOk};
 ghost use Rattle.std.specs.Io.KnownBytes.{Appends};
 ghost use Rattle.ts_script.specs.Known.{known_in};
-ghost use Rattle.ts_lab.specs.Scanner.{Scans, Finishes, Closes};
+ghost use Rattle.ts_lab.specs.inside.Scanner.{Scans, Finishes, Closes};
 
 use crate::answer::answer_line;
 use crate::network::Network;
@@ -161,7 +161,7 @@ impl Scanner {
 
 /// What reading a script has come to.
 #[derive(Clone, Copy, Debug, PartialEq, Eq)]
-pub(crate) enum Step {
+pub(crate) enum ScanStep {
     /// There may be more to read.
     More,
     /// It was answered to its end, or up to a wrong line.

@@ -1,6 +1,6 @@
 //! Messages that were sent.
 
-ghost use Rattle.ts_lab.specs.Member.{InputIsFit};
+ghost use Rattle.ts_lab.specs.inside.Member.{InputIsFit};
 
 use crate::member::NodeInput;
 use std::marker::Model;
@@ -17,7 +17,7 @@ pub(crate) struct Deliverable {
 
 impl Model for Deliverable {
     ghost use Rattle.std.specs.Prelude.{ℕ};
-    ghost use Rattle.ts_lab.specs.Member.{InputIsFit};
+    ghost use Rattle.ts_lab.specs.inside.Member.{InputIsFit};
 
     // No contract speaks of its content.
     ghost Value = { ℕ };
@@ -49,18 +49,18 @@ impl Deliverable {
 
 /// A message that was sent.
 #[derive(Drop)]
-pub(crate) struct Sent {
+pub(crate) struct SentMessage {
     pub to: u8,
     pub message: Deliverable,
     pub is_delivered: bool,
 }
 
-impl Sent {
+impl SentMessage {
     /// A message that is not delivered yet. `None` for one that no node may be sent.
-    pub fn new(message: Message<Command>) -> Option<Sent> {
+    pub fn new(message: Message<Command>) -> Option<SentMessage> {
         let to = message.to;
         let message = Deliverable::new(message)?;
-        Some(Sent {
+        Some(SentMessage {
             to,
             message,
             is_delivered: false,

@@ -4,7 +4,7 @@ use crate::network::Network;
 use crate::text::fault_name;
 use crate::trouble::Trouble;
 use std::alloc::{AllocError, Global};
-use ts_node::NodeFault;
+use ts_synod::NodeFault;
 
 /// For each node how many commands it knows without a gap, and the ids of them, where they were
 /// submitted. A node's fault is in place of its line.
@@ -32,7 +32,7 @@ fn line_of(alloc: Global, network: &mut Network, place: usize) -> Result<String,
     let prefix = network.prefix(place)?;
     let node = place.saturating_add(1);
     let mut text = format!(in alloc; "node {node} prefix {prefix}")?;
-    for (position, id) in settled(alloc, network, place)? {
+    for (position, id) in settled_positions(alloc, network, place)? {
         if position <= prefix {
             let word = format!(in alloc; " {id:02x}")?;
             text.push_str(word.as_str())?;
@@ -43,10 +43,14 @@ fn line_of(alloc: Global, network: &mut Network, place: usize) -> Result<String,
 }
 
 /// The positions of the submitted ids at the node of a place, ascending, each with its id.
-fn settled(alloc: Global, network: &mut Network, place: usize) -> Result<Vec<(u32, u8)>, Trouble> {
+fn settled_positions(
+    alloc: Global,
+    network: &mut Network,
+    place: usize,
+) -> Result<Vec<(u32, u8)>, Trouble> {
     let mut settled = Vec::new(alloc);
-    for index in 0..network.submitted().len() {
-        let Some(&id) = network.submitted().get(index) else {
+    for index in 0..network.submitted_ids().len() {
+        let Some(&id) = network.submitted_ids().get(index) else {
             break;
         };
         if let Some((position, _outcome)) = network.settled(place, id)? {

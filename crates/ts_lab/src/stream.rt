@@ -3,9 +3,10 @@
 ghost use Rattle.std.specs.Prelude.{◌≡◌, ◌≢◌, ◌≤◌, ◌<◌, ◌+◌, ◌^◌, ◌⊎◌, IfErr, IfOk, IfSome, OnOk};
 ghost use Rattle.std.specs.Io.KnownBytes.{Appends};
 ghost use Rattle.ts_script.specs.Wrong.{text_of};
-ghost use Rattle.ts_lab.specs.Lab.{IsAnswered, IsRead, IsStep, done_in, fed_in};
+ghost use Rattle.ts_lab.specs.Lab.{IsAnswered};
+ghost use Rattle.ts_lab.specs.inside.Lab.{IsRead, IsStep, done_in, fed_in};
 
-use crate::scanner::{Scanner, Step, Stop};
+use crate::scanner::{ScanStep, Scanner, Stop};
 use std::alloc::Global;
 use std::io;
 use std::io::{ErrorKind, Read, Write};
@@ -78,7 +79,7 @@ fn first_wrong_line<R: Read, W: Write>(
     let mut scanner = Scanner::new(alloc);
     let mut buffer = [0; PIECE];
     for _read in 0..reads {
-        if let Step::Done(wrong) = step(alloc, reader, writer, &mut scanner, &mut buffer)? {
+        if let ScanStep::Done(wrong) = step(alloc, reader, writer, &mut scanner, &mut buffer)? {
             return Ok(wrong);
         }
     }
@@ -92,7 +93,7 @@ fn step<R: Read, W: Write>(
     writer: &mut W,
     scanner: &mut Scanner,
     buffer: &mut [u8; PIECE],
-) -> Result<Step, StreamFault>
+) -> Result<ScanStep, StreamFault>
     requires { scanner.old.number + 8192 < 2 ^ 64 }
     ensures says { IsStep (R.remaining reader.old) (R.remaining reader.new) (W.contents writer.old)
         (W.contents writer.new) scanner.old scanner.new result }
@@ -101,29 +102,29 @@ fn step<R: Read, W: Write>(
     match reader.read(buffer) {
         Ok(0) => done(scanner.end(alloc, writer)),
         Ok(count) => fed(scanner.feed(alloc, writer, &buffer[..count])),
-        Err(error) if error.kind() == ErrorKind::Interrupted => Ok(Step::More),
+        Err(error) if error.kind() == ErrorKind::Interrupted => Ok(ScanStep::More),
         Err(_) => Err(StreamFault::Read),
     }
 }
 
 /// What the end of a script comes to.
-fn done(answered: Result<(), Stop>) -> Result<Step, StreamFault>
+fn done(answered: Result<(), Stop>) -> Result<ScanStep, StreamFault>
     ensures { result ≡ done_in answered }
 {
     match answered {
-        Ok(()) => Ok(Step::Done(None)),
-        Err(Stop::Wrong(wrong)) => Ok(Step::Done(Some(wrong))),
+        Ok(()) => Ok(ScanStep::Done(None)),
+        Err(Stop::Wrong(wrong)) => Ok(ScanStep::Done(Some(wrong))),
         Err(Stop::Write) => Err(StreamFault::Write),
     }
 }
 
 /// What a piece of a script comes to.
-fn fed(answered: Result<(), Stop>) -> Result<Step, StreamFault>
+fn fed(answered: Result<(), Stop>) -> Result<ScanStep, StreamFault>
     ensures { result ≡ fed_in answered }
 {
     match answered {
-        Ok(()) => Ok(Step::More),
-        Err(Stop::Wrong(wrong)) => Ok(Step::Done(Some(wrong))),
+        Ok(()) => Ok(ScanStep::More),
+        Err(Stop::Wrong(wrong)) => Ok(ScanStep::Done(Some(wrong))),
         Err(Stop::Write) => Err(StreamFault::Write),
     }
 }

@@ -1,11 +1,12 @@
 //! The words for what nodes answer.
 
 use std::alloc::{AllocError, Global};
-use ts_der::DerFault;
-use ts_node::NodeFault;
-use ts_question::{Oids, Reason, Reply};
+use ts_der::{DerFault, Oid};
+use ts_question::{Oids, Reply};
+use ts_reason::Reason;
 use ts_shape::CertRule;
 use ts_store::{Outcome, Refusal};
+use ts_synod::NodeFault;
 
 /// The name of a node's fault.
 pub fn fault_name(fault: NodeFault) -> &'static str {
@@ -47,38 +48,10 @@ pub fn outcome_text(alloc: Global, outcome: Outcome) -> Result<String, AllocErro
     }
 }
 
-/// The condition that a chain does not meet.
-fn reason_name(reason: &Reason) -> &'static str {
-    match reason {
-        Reason::AnchorPurpose => "AnchorPurpose",
-        Reason::Signature => "Signature",
-        Reason::TooEarly => "TooEarly",
-        Reason::Expired => "Expired",
-        Reason::Revoked(_) => "Revoked",
-        Reason::Undetermined => "Undetermined",
-        Reason::IssuerName => "IssuerName",
-        Reason::UnsupportedConstraint => "UnsupportedConstraint",
-        Reason::NotPermitted => "NotPermitted",
-        Reason::Excluded => "Excluded",
-        Reason::PolicyRequired => "PolicyRequired",
-        Reason::MapsAny => "MapsAny",
-        Reason::NotCa => "NotCa",
-        Reason::PathLength => "PathLength",
-        Reason::KeyUsage => "KeyUsage",
-        Reason::CriticalExtension(_) => "CriticalExtension",
-        Reason::FinalPolicy => "FinalPolicy",
-        Reason::Purpose => "Purpose",
-    }
-}
-
 /// Why a chain is not valid, from a position on.
-fn invalid_text(alloc: Global, position: u8, reason: &Reason) -> Result<String, AllocError> {
-    let name = reason_name(reason);
-    match reason {
-        Reason::Revoked(code) => format!(in alloc; "invalid {position} {name} {code}"),
-        Reason::CriticalExtension(oid) => format!(in alloc; "invalid {position} {name} {oid}"),
-        _ => format!(in alloc; "invalid {position} {name}"),
-    }
+fn invalid_text(alloc: Global, position: u8, reason: &Reason<Oid>) -> Result<String, AllocError> {
+    let reason = reason.as_ref();
+    format!(in alloc; "invalid {position} {reason}")
 }
 
 /// That a chain is valid, with the accepted policies in dotted form, or `-` where there is none.

@@ -1,8 +1,8 @@
 //! Why a line about nodes has no answer of its own.
 
 use std::alloc::{AllocError, AllocFailed};
-use ts_node::NodeFault;
 use ts_script::LineFault;
+use ts_synod::NodeFault;
 
 /// Why a line about nodes has no answer of its own.
 #[derive(Clone, Copy, Debug, PartialEq, Eq)]

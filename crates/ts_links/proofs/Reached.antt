@@ -7,19 +7,19 @@ use Rattle.ts_wire.specs.declared.frame.Frame.{Frame}
 use Rattle.ts_links.specs.declared.connections.ArriveFault.{ArriveFault}
 use Rattle.ts_links.specs.declared.connections.ArriveFault.TheVariants as faults
 use Rattle.ts_links.specs.declared.link.Link.{Link}
-use Rattle.ts_links.specs.declared.link.Taken.{Taken}
-use Rattle.ts_links.specs.declared.link.Taken.TheVariants as takes
-use Rattle.ts_links.specs.Events.{Answered, Change, Changes, Event, Quiet, event, taken, taken_in}
+use Rattle.ts_links.specs.declared.link.TakeResult.{TakeResult}
+use Rattle.ts_links.specs.declared.link.TakeResult.TheVariants as takes
+use Rattle.ts_links.specs.Events.{AnsweredRequest, Change, Changes, Event, Quiet, event, requests_taken, taken_in}
 use Rattle.ts_links.specs.Moves.{Closed, IsWaiting}
 use Rattle.ts_links.specs.Table.{ArriveGives, LeaveGives, OpenGives}
-use Rattle.ts_links.specs.Turns.{Gives, KeepsSome, Reached, Refused1, RunsAndKeeps, Took1, TurnGives}
+use Rattle.ts_links.specs.Turns.{Gives, KeepsSome, IsReached, Refused1, RunsAndKeeps, Took1, TurnGives}
 use Rattle.ts_links.proofs.Slots.{same_link, set_same}
 
 changes_join : (events more : List Event) (links between others : List Link) → Changes links events between → Changes between more others → Changes links (events ++ more) others
 changes_join [] more links between others a b = subst (λ (l : List Link). Changes l more others) a b
 changes_join (event ∷ events) more links between others a b = (a.0, a.1, changes_join events more a.0 between others a.2 b)
 
-taken-append : (events more : List Event) → taken (events ++ more) ≡ taken events ++ taken more
+taken-append : (events more : List Event) → requests_taken (events ++ more) ≡ requests_taken events ++ requests_taken more
 taken-append events more = flat_map-append (λ (e : Event). taken_in e.move) events more
 
 -- ---- moves that take no request
@@ -33,7 +33,7 @@ quiet_one links others e none change = record { events = e ∷ []; none = append
 pub quiet_then : (a b c : List Link) → Quiet a b → Quiet b c → Quiet a c
 quiet_then a b c p q = record {
   events = p.events ++ q.events;
-  none = taken-append p.events q.events ∙ ap (λ l. l ++ taken q.events) p.none ∙ q.none;
+  none = taken-append p.events q.events ∙ ap (λ l. l ++ requests_taken q.events) p.none ∙ q.none;
   changes = changes_join p.events q.events a b c p.changes q.changes;
 }
 
@@ -62,49 +62,49 @@ module _ {S : Type 0} (turn : S → Frame → List Frame → S → Type 0) (keep
   keeps_join [] more s t u p q = subst (λ x. KeepsSome turn keeps more x u) p q
   keeps_join (mid ∷ mids) more s t u p q = (p.0, keeps_join mids more mid t u p.1 q)
 
-  keeps_first : (mids : List S) (s t u : S) (pairs : List Answered) → KeepsSome turn keeps mids s t → RunsAndKeeps turn keeps t pairs u → RunsAndKeeps turn keeps s pairs u
+  keeps_first : (mids : List S) (s t u : S) (pairs : List AnsweredRequest) → KeepsSome turn keeps mids s t → RunsAndKeeps turn keeps t pairs u → RunsAndKeeps turn keeps s pairs u
   keeps_first mids s t u [] p q = (mids ++ q.0, keeps_join mids q.0 s t u p q.1)
   keeps_first mids s t u (pair ∷ pairs) p q = (mids ++ q.0, q.1, q.2, keeps_join mids q.0 s t q.1 p q.3, q.4, q.5)
 
-  runs_join : (s t u : S) (pairs more : List Answered) → RunsAndKeeps turn keeps s pairs t → RunsAndKeeps turn keeps t more u → RunsAndKeeps turn keeps s (pairs ++ more) u
+  runs_join : (s t u : S) (pairs more : List AnsweredRequest) → RunsAndKeeps turn keeps s pairs t → RunsAndKeeps turn keeps t more u → RunsAndKeeps turn keeps s (pairs ++ more) u
   runs_join s t u [] more p q = keeps_first p.0 s t u more p.1 q
   runs_join s t u (pair ∷ pairs) more p q = (p.0, p.1, p.2, p.3, p.4, runs_join p.2 t u pairs more p.5 q)
 
-  pub reached_then : (s t u : S) (a b c : List Link) → Reached turn keeps s a t b → Reached turn keeps t b u c → Reached turn keeps s a u c
+  pub reached_then : (s t u : S) (a b c : List Link) → IsReached turn keeps s a t b → IsReached turn keeps t b u c → IsReached turn keeps s a u c
   reached_then s t u a b c p q = record {
     events = p.events ++ q.events;
     changes = changes_join p.events q.events a b c p.changes q.changes;
-    run = subst (λ (l : List Answered). RunsAndKeeps turn keeps s l u) (sym (taken-append p.events q.events)) (runs_join s t u (taken p.events) (taken q.events) p.run q.run);
+    run = subst (λ (l : List AnsweredRequest). RunsAndKeeps turn keeps s l u) (sym (taken-append p.events q.events)) (runs_join s t u (requests_taken p.events) (requests_taken q.events) p.run q.run);
   }
 
   -- nothing was taken
-  pub reached_quiet : (s : S) (a b : List Link) → Quiet a b → Reached turn keeps s a s b
-  reached_quiet s a b q = record { events = q.events; changes = q.changes; run = subst (λ (l : List Answered). RunsAndKeeps turn keeps s l s) (sym q.none) ([], refl) }
+  pub reached_quiet : (s : S) (a b : List Link) → Quiet a b → IsReached turn keeps s a s b
+  reached_quiet s a b q = record { events = q.events; changes = q.changes; run = subst (λ (l : List AnsweredRequest). RunsAndKeeps turn keeps s l s) (sym q.none) ([], refl) }
 
-  pub reached_none : (s : S) (a : List Link) → Reached turn keeps s a s a
+  pub reached_none : (s : S) (a : List Link) → IsReached turn keeps s a s a
   reached_none s a = reached_quiet s a a (quiet_none a a refl)
 
   -- it tried to keep what was there
-  pub reached_kept : (s t : S) (a : List Link) → keeps s t → Reached turn keeps s a t a
+  pub reached_kept : (s t : S) (a : List Link) → keeps s t → IsReached turn keeps s a t a
   reached_kept s t a kept = record { events = []; changes = refl; run = (t ∷ [], (kept, refl)) }
 
-  pub then_quiet : (s t : S) (a b c : List Link) → Reached turn keeps s a t b → Quiet b c → Reached turn keeps s a t c
+  pub then_quiet : (s t : S) (a b c : List Link) → IsReached turn keeps s a t b → Quiet b c → IsReached turn keeps s a t c
   then_quiet s t a b c p q = reached_then s t t a b c p (reached_quiet t b c q)
 
-  reached_took : (s t : S) (a b : List Link) (slot now : ℕ) → Took1 turn s a slot now t b → Reached turn keeps s a t b
+  reached_took : (s t : S) (a b : List Link) (slot now : ℕ) → Took1 turn s a slot now t b → IsReached turn keeps s a t b
   reached_took s t a b slot now took = record {
     events = event slot now _ ∷ [];
     changes = (b, took.change, refl);
     run = ([], s, t, refl, took.turned, ([], refl));
   }
 
-  reached_refused : (s t : S) (a b : List Link) (slot now : ℕ) → Refused1 turn s a slot now t b → Reached turn keeps s a t b
-  reached_refused s t a b slot now one = subst (λ (x : S). Reached turn keeps s a x b) (sym one.same) (reached_quiet s a b (quiet_one a b (event slot now _) refl one.change))
+  reached_refused : (s t : S) (a b : List Link) (slot now : ℕ) → Refused1 turn s a slot now t b → IsReached turn keeps s a t b
+  reached_refused s t a b slot now one = subst (λ (x : S). IsReached turn keeps s a x b) (sym one.same) (reached_quiet s a b (quiet_one a b (event slot now _) refl one.change))
 
-  reached_same : (s t : S) (a b : List Link) → t ≡ s → b ≡ a → Reached turn keeps s a t b
-  reached_same s t a b same alike = subst (λ (x : S). Reached turn keeps s a x b) (sym same) (reached_quiet s a b (quiet_none a b alike))
+  reached_same : (s t : S) (a b : List Link) → t ≡ s → b ≡ a → IsReached turn keeps s a t b
+  reached_same s t a b same alike = subst (λ (x : S). IsReached turn keeps s a x b) (sym same) (reached_quiet s a b (quiet_none a b alike))
 
-  pub reached_gives : (s t : S) (a b : List Link) (slot now : ℕ) (r : Result Taken AllocError) → Gives turn s a slot now r t b → Reached turn keeps s a t b
+  pub reached_gives : (s t : S) (a b : List Link) (slot now : ℕ) (r : Result TakeResult AllocError) → Gives turn s a slot now r t b → IsReached turn keeps s a t b
   reached_gives s t a b slot now (Ok takes.Request) h = reached_took s t a b slot now h.0
   reached_gives s t a b slot now (Ok takes.Fault) h = reached_refused s t a b slot now h.0
   reached_gives s t a b slot now (Ok takes.Nothing) h = reached_same s t a b h.0 h.1
@@ -114,7 +114,9 @@ module _ {S : Type 0} (turn : S → Frame → List Frame → S → Type 0) (keep
 
 module _ {S : Type 0} (turn : S → Frame → List Frame → S → Type 0) where
   -- what a turn of a slot comes to, from what it does at its connection
-  pub gives_of : (links : List Link) (slot now : ℕ) (a b : Link) (s t : S) (r : Result Taken AllocError) → slice_get links slot ≡ Some a → TurnGives turn s a now r t b → Gives turn s links slot now r t (slice_set links slot b)
+  pub gives_of : (links : List Link) (slot now : ℕ) (a b : Link) (s t : S)
+      (r : Result TakeResult AllocError) → slice_get links slot ≡ Some a
+      → TurnGives turn s a now r t b → Gives turn s links slot now r t (slice_set links slot b)
   gives_of links slot now a b s t (Ok takes.Request) was h =
       (record { request = h.0.request; answers = h.0.answers; turned = h.0.turned; change = record { before = a; after = b; was = was; is = refl; makes = h.0.moved } }, h.1)
   gives_of links slot now a b s t (Ok takes.Fault) was h = (record { fault = h.0.fault; same = h.0.same; change = record { before = a; after = b; was = was; is = refl; makes = h.0.moved } }, h.1)

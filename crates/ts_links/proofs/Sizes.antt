@@ -3,9 +3,10 @@ use Rattle.std.proofs.Common.{◌≡◌, ◌∙◌, refl, sym, ap, subst, ℕ, s
 use Rattle.std.proofs.lemmas.List.{append-nil, length-take-le}
 use Rattle.std.proofs.lemmas.Nat.{from_be_bytes-to_be_bytes_4}
 use Rattle.std.specs.Int.{to_be_bytes, from_be_bytes, w32}
-use Rattle.ts_wire.specs.Frames.{encoding, fields, kind_of, Fits}
+use Rattle.ts_wire.specs.Frames.{frame_encoding, frame_fields, frame_kind, FrameFits}
 use Rattle.ts_wire.specs.Stream.{IsPartial, IsFault}
-use Rattle.ts_wire.specs.Taking.{Sized, IsWrong}
+use Rattle.ts_wire.specs.Taking.{IsWrong}
+use Rattle.ts_wire.specs.inside.Taking.{HasSize}
 use Rattle.ts_wire.specs.declared.fault.FrameFault.TheVariants.{Length}
 use Rattle.ts_wire.specs.declared.frame.Frame.{Frame}
 use Rattle.ts_wire.specs.declared.wire_error.FeedError.{FeedError}
@@ -22,7 +23,7 @@ length_is : (octets body : List ℕ) (n : ℕ) → octets ≡ to_be_bytes w32 n 
 length_is octets body n is = let e : length octets ≡ length (to_be_bytes w32 n ++ body) = ap length is in omega (arith, e)
 
 -- a whole frame is not partial
-pub sized_or_partial : (octets : List ℕ) (n : ℕ) → Sized octets n → IsPartial octets → ⊥
+pub sized_or_partial : (octets : List ℕ) (n : ℕ) → HasSize octets n → IsPartial octets → ⊥
 sized_or_partial octets n s (inl few) = omega (arith, s.enough, few)
 sized_or_partial octets n s (inr x) =
     let m : n ≡ x.0 = same_length octets (drop 4 octets) x.1 n x.0 (omega (arith, s.length_is.1)) (omega (arith, x.2.1)) s.is x.3 in
@@ -39,14 +40,14 @@ fault_or_partial octets f (inr x) =
     by m (inl low) = omega (arith, m, low, x.2.0)
     by m (inr high) = omega (arith, m, high, x.2.1)
 
-take_whole : (octets : List ℕ) (n : ℕ) → Sized octets n → take (4 + n) octets ≡ to_be_bytes w32 n ++ take n (drop 4 octets)
+take_whole : (octets : List ℕ) (n : ℕ) → HasSize octets n → take (4 + n) octets ≡ to_be_bytes w32 n ++ take n (drop 4 octets)
 take_whole octets n s =
     let k : 4 + n ≡ suc (suc (suc (suc n))) = omega arith in
     let e : take (suc (suc (suc (suc n)))) octets ≡ to_be_bytes w32 n ++ take n (drop 4 octets) = ap (take (suc (suc (suc (suc n))))) s.is in
     ap (λ m. take m octets) k ∙ e
 
 -- the octets of the frame alone are as many as their length says
-pub sized_whole : (octets : List ℕ) (n : ℕ) → Sized octets n → Sized (take (4 + n) octets) n
+pub sized_whole : (octets : List ℕ) (n : ℕ) → HasSize octets n → HasSize (take (4 + n) octets) n
 sized_whole octets n s =
     let e = take_whole octets n s in
     let long : length (take (4 + n) octets) ≡ 4 + n = length-take-le (4 + n) octets s.enough in
@@ -56,7 +57,7 @@ sized_whole octets n s =
       is = e ∙ ap (λ l. to_be_bytes w32 n ++ l) (sym (ap (drop 4) e));
     }
 
-pub whole_or_partial : (octets : List ℕ) (n : ℕ) → Sized octets n → IsPartial (take (4 + n) octets) → ⊥
+pub whole_or_partial : (octets : List ℕ) (n : ℕ) → HasSize octets n → IsPartial (take (4 + n) octets) → ⊥
 whole_or_partial octets n s p = sized_or_partial (take (4 + n) octets) n (sized_whole octets n s) p
 
 none_left : (rest : List ℕ) → length rest ≡ 0 → rest ≡ []
@@ -64,15 +65,22 @@ none_left [] is = refl
 none_left (x ∷ rest) is = absurd (omega (arith, is))
 
 -- a frame at their front is all of them
-pub frame_first : (octets rest : List ℕ) (n : ℕ) (frame : Frame) → Sized octets n → Fits frame → take (4 + n) octets ≡ encoding frame ++ rest → octets ≡ encoding frame ++ drop (4 + n) octets
+pub frame_first : (octets rest : List ℕ) (n : ℕ) (frame : Frame) → HasSize octets n
+    → FrameFits frame → take (4 + n) octets ≡ frame_encoding frame ++ rest
+    → octets ≡ frame_encoding frame ++ drop (4 + n) octets
 frame_first octets rest n frame s fits is =
     let w = sized_whole octets n s in
-    let m : n ≡ 2 + length (fields frame) = same_length (take (4 + n) octets) (drop 4 (take (4 + n) octets)) ((2 ∷ kind_of frame ∷ fields frame) ++ rest) n (2 + length (fields frame))
+    let m : n ≡ 2 + length (frame_fields frame) =
+    same_length (take (4 + n) octets) (drop 4 (take (4 + n) octets))
+    ((2 ∷ frame_kind frame ∷ frame_fields frame) ++ rest) n (2 + length (frame_fields frame))
     (omega (arith, s.length_is.1)) (omega (arith, fits.short)) w.is is in
     let long : length (take (4 + n) octets) ≡ 4 + n = length-take-le (4 + n) octets s.enough in
-    let all : length (take (4 + n) octets) ≡ 4 + length ((2 ∷ kind_of frame ∷ fields frame) ++ rest) = length_is (take (4 + n) octets) ((2 ∷ kind_of frame ∷ fields frame) ++ rest) (2 + length (fields frame)) is in
-    let none : rest ≡ [] = none_left rest (omega (arith, m, long, all, length-append (fields frame) rest)) in
-    sym (take-append-drop (4 + n) octets) ∙ ap (λ l. l ++ drop (4 + n) octets) (is ∙ ap (λ l. encoding frame ++ l) none ∙ append-nil (encoding frame))
+    let all : length (take (4 + n) octets) ≡ 4 + length
+    ((2 ∷ frame_kind frame ∷ frame_fields frame) ++ rest) =
+    length_is (take (4 + n) octets) ((2 ∷ frame_kind frame ∷ frame_fields frame) ++ rest)
+    (2 + length (frame_fields frame)) is in
+    let none : rest ≡ [] = none_left rest (omega (arith, m, long, all, length-append (frame_fields frame) rest)) in
+    sym (take-append-drop (4 + n) octets) ∙ ap (λ l. l ++ drop (4 + n) octets) (is ∙ ap (λ l. frame_encoding frame ++ l) none ∙ append-nil (frame_encoding frame))
 
 -- a fault in its place is at the front of all
 pub wrong_first : (octets : List ℕ) (k : ℕ) (e : FeedError) → IsWrong e (take k octets) → IsWrong e octets

@@ -44,7 +44,9 @@ below_more P links n b was holds before k low link is = by (nat_eq k n) refl
     by false e = let apart = apart_of k n e in let less : k < n = omega (arith, low, apart) in before k less link is
 
 -- nothing was put
-pub not_open : (links : List Link) (slot : ℕ) (b : Link) → slice_get links slot ≡ Some b → (b.stage ≡ stages.Open → ⊥) → (slice_set links slot b ≡ links) × At links slot (λ link. link.stage ≡ stages.Open → ⊥)
+pub not_open : (links : List Link) (slot : ℕ) (b : Link) → slice_get links slot ≡ Some b
+    → (b.stage ≡ stages.Open → ⊥) → (slice_set links slot b ≡ links)
+    × At links slot (λ link. link.stage ≡ stages.Open → ⊥)
 not_open links slot b was closed = (set_same links slot b was, at_one (λ link. link.stage ≡ stages.Open → ⊥) links slot b was closed)
 
 pub is_full : (links : List Link) (slot : ℕ) (b : Link) → slice_get links slot ≡ Some b → b.stage ≡ stages.Open → (HasRoom b → ⊥)

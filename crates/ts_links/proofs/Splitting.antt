@@ -15,7 +15,9 @@ front_of : (taken more : List Frame) → take (length taken) (taken ++ more) ≡
 front_of [] more = refl
 front_of (f ∷ fs) more = ap (λ l. f ∷ l) (front_of fs more)
 
-if_stopped : (requests frames more : List Frame) (rest : List ℕ) (fault x : Option FrameFault) → frames ≡ requests ++ more → AllByRecursion (λ f. is_request f ≡ true) requests → Splits rest more fault → StopsIf x rest
+if_stopped : (requests frames more : List Frame) (rest : List ℕ) (fault x : Option FrameFault)
+    → frames ≡ requests ++ more → AllByRecursion (λ f. is_request f ≡ true) requests
+    → Splits rest more fault → StopsIf x rest
     → IfSome x (λ stop. (requests_of frames ≡ requests) × (fault_of frames fault ≡ Some stop))
 if_stopped requests frames more rest fault None is asks splits s = tt
 if_stopped requests frames more rest fault (Some stop) is asks splits s =

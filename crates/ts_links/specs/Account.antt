@@ -2,7 +2,7 @@
 use Rattle.std.specs.Prelude.{◌≡◌, ℕ, true, List, [], ◌∷◌, ◌++◌, nat_eq, length, take}
 use Rattle.std.specs.Prelude.{Option, Some, None, IfSome, if◌then◌else◌}
 use Rattle.std.specs.List.{flat_map, AllByRecursion}
-use Rattle.ts_wire.specs.Frames.{encoding, Fits}
+use Rattle.ts_wire.specs.Frames.{frame_encoding, FrameFits}
 use Rattle.ts_wire.specs.declared.fault.FrameFault.{FrameFault}
 use Rattle.ts_wire.specs.declared.frame.Frame.{Frame}
 use Rattle.ts_serve.specs.Requests.{is_request}
@@ -25,22 +25,23 @@ pub record Account : Type 0 where
 abbrev pub nothing : Account
 nothing = record { came = []; requests = []; answers = []; fault = None; left = [] }
 
-abbrev pub noted : Account → Move → Account
-noted account Opened = nothing
-noted account (Came piece) = record account { came = account.came ++ piece }
-noted account (Took request answers) = record account {
+abbrev pub note_move : Account → Move → Account
+note_move account Opened = nothing
+note_move account (Came piece) = record account { came = account.came ++ piece }
+note_move account (Took request answers) = record account {
   requests = account.requests ++ request ∷ [];
   answers = account.answers ++ answers;
 }
-noted account (Refused fault) = record account { fault = Some fault }
-noted account (Left octets) = record account { left = account.left ++ octets }
-noted account Closed = account
+note_move account (Refused fault) = record account { fault = Some fault }
+note_move account (Left octets) = record account { left = account.left ++ octets }
+note_move account Closed = account
 
 -- the account of one slot after events
 abbrev pub account_after : ℕ → Account → List Event → Account
 account_after slot account [] = account
 account_after slot account (event ∷ events) =
-    account_after slot (if nat_eq event.slot slot then noted account event.move else account) events
+    account_after slot (if nat_eq event.slot slot then note_move account event.move else account)
+    events
 
 -- What came on a connection are the requests that were taken, and then what is held; where it was
 -- refused, that begins with the fault. The text of the answers to exactly these requests, in their
@@ -49,8 +50,8 @@ account_after slot account (event ∷ events) =
 pub record IsFair (account : Account) (link : Link) : Type 0 where
   pub cut : List ℕ
   pub lost : List ℕ
-  pub asked : account.came ≡ flat_map encoding account.requests ++ (link.held ++ cut)
-  pub each : AllByRecursion Fits account.requests
+  pub asked : account.came ≡ flat_map frame_encoding account.requests ++ (link.held ++ cut)
+  pub each : AllByRecursion FrameFits account.requests
   pub asks : AllByRecursion (λ f. is_request f ≡ true) account.requests
   pub stops : StopsIf account.fault (link.held ++ cut)
   pub answered : text (account.answers ++ fault_frames account.fault)

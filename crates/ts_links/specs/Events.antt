@@ -29,10 +29,10 @@ Changes links (event ∷ events) others =
     (between : List Link) × Change links event between × Changes between events others
 
 -- a request that was taken, and its answers
-abbrev pub Answered : Type 0
-Answered = Frame × List Frame
+abbrev pub AnsweredRequest : Type 0
+AnsweredRequest = Frame × List Frame
 
-abbrev pub taken_in : Move → List Answered
+abbrev pub taken_in : Move → List AnsweredRequest
 taken_in Opened = []
 taken_in (Came piece) = []
 taken_in (Took request answers) = (request, answers) ∷ []
@@ -41,11 +41,11 @@ taken_in (Left octets) = []
 taken_in Closed = []
 
 -- the requests that were taken on all connections, in the order in which they were taken
-abbrev pub taken : List Event → List Answered
-taken events = flat_map (λ event. taken_in event.move) events
+abbrev pub requests_taken : List Event → List AnsweredRequest
+requests_taken events = flat_map (λ event. taken_in event.move) events
 
 -- some moves, none of which takes a request, lead from these connections to those
 pub record Quiet (links others : List Link) : Type 0 where
   pub events : List Event
-  pub none : taken events ≡ []
+  pub none : requests_taken events ≡ []
   pub changes : Changes links events others

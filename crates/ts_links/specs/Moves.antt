@@ -1,7 +1,7 @@
 -- What happens on one connection, and what it has then.
 use Rattle.std.specs.Prelude.{◌≡◌, ◌⊎◌, ◌<◌, ◌≤◌, ℕ, Bool, true, false, List, [], ◌++◌, length}
 use Rattle.std.specs.Prelude.{Some}
-use Rattle.ts_wire.specs.Frames.{encoding, Fits}
+use Rattle.ts_wire.specs.Frames.{frame_encoding, FrameFits}
 use Rattle.ts_wire.specs.Stream.{IsPartial}
 use Rattle.ts_wire.specs.declared.fault.FrameFault.{FrameFault}
 use Rattle.ts_wire.specs.declared.frame.Frame.{Frame}
@@ -51,9 +51,9 @@ pub record HasCome (a b : Link) (piece : List ℕ) (now : ℕ) : Type 0 where
 pub record HasTaken (a b : Link) (request : Frame) (answers : List Frame) (now : ℕ) : Type 0 where
   pub was : a.stage ≡ stages.Open
   pub few : length a.waits < 65536
-  pub fits : Fits request
+  pub fits : FrameFits request
   pub asks : is_request request ≡ true
-  pub held : a.held ≡ encoding request ++ b.held
+  pub held : a.held ≡ frame_encoding request ++ b.held
   pub puts : Puts a b stages.Open (text answers)
   pub times : b.times ≡ times_took a.waits a.times now
 

@@ -46,13 +46,13 @@ times_left waits count times now = record {
 }
 
 -- the length that four octets announce, and 0 where they are not there
-abbrev pub announced : List ℕ → ℕ
-announced (a ∷ b ∷ c ∷ d ∷ rest) = ((a * 256 + b) * 256 + c) * 256 + d
-announced other = 0
+abbrev pub announced_length : List ℕ → ℕ
+announced_length (a ∷ b ∷ c ∷ d ∷ rest) = ((a * 256 + b) * 256 + c) * 256 + d
+announced_length other = 0
 
 -- a frame has a second more to come whole for each mebibyte that it announces
 abbrev pub more_time : List ℕ → ℕ
-more_time held = 1000 * (announced held / 1048576)
+more_time held = 1000 * (announced_length held / 1048576)
 
 -- an answer waits too long
 abbrev pub is_unread : Deadlines → Link → ℕ → Bool

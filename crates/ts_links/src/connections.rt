@@ -6,7 +6,7 @@ ghost use Rattle.ts_links.specs.Moves.{Closed, IsUnused};
 ghost use Rattle.ts_links.specs.Table.{ArriveGives, FirstClosed, LeaveGives, OpenGives};
 ghost use Rattle.ts_links.specs.Turns.{Gives};
 
-use crate::link::{Link, Taken};
+use crate::link::{Link, TakeResult};
 use crate::service::Service;
 use std::alloc::{AllocError, Global};
 
@@ -126,14 +126,14 @@ impl Connections {
         slot: usize,
         service: &mut S,
         now: u64,
-    ) -> Result<Taken, AllocError>
+    ) -> Result<TakeResult, AllocError>
         requires { S.is_ready service.old }
         ensures gives { Gives S.turn service.old self.old.links.items slot now result
             service.new self.new.links.items }
         ensures ready { S.is_ready service.new }
     {
         if slot >= self.links.len() {
-            return Ok(Taken::Nothing);
+            return Ok(TakeResult::Nothing);
         }
         let link = &mut self.links[slot];
         link.take(self.alloc, service, now)

@@ -3,9 +3,10 @@
 ghost use Rattle.std.specs.Prelude.{◌≡◌, ◌≤◌, ◌<◌, ◌^◌, ◌++◌, ℕ, List, length, drop};
 ghost use Rattle.std.specs.Prelude.{IfSome, MatchOption, MatchResult};
 ghost use Rattle.std.specs.Int.{to_be_bytes, w32};
-ghost use Rattle.ts_wire.specs.Frames.{encoding, Fits};
+ghost use Rattle.ts_wire.specs.Frames.{frame_encoding, FrameFits};
 ghost use Rattle.ts_wire.specs.Stream.{IsPartial};
-ghost use Rattle.ts_wire.specs.Taking.{IsWrong, SizeOr};
+ghost use Rattle.ts_wire.specs.Taking.{IsWrong};
+ghost use Rattle.ts_wire.specs.inside.Taking.{SizeOr};
 
 use std::alloc::Global;
 use ts_wire::{Feed, FeedError, Frame, FrameFault, MAX_LENGTH};
@@ -44,7 +45,7 @@ pub(crate) fn size_of(octets: &[u8]) -> Result<Option<usize>, FrameFault>
 fn whole_frame(alloc: Global, octets: &[u8]) -> Result<Option<Frame>, FeedError>
     ensures { MatchResult result
         (λ found. MatchOption found (IsPartial octets.now)
-        (λ frame. Fits frame × (rest : List ℕ) × (octets.now ≡ encoding frame ++ rest)))
+        (λ frame. FrameFits frame × (rest : List ℕ) × (octets.now ≡ frame_encoding frame ++ rest)))
         (λ e. IsWrong e octets.now) }
 {
     let mut feed = Feed::new(alloc);
@@ -56,8 +57,8 @@ fn whole_frame(alloc: Global, octets: &[u8]) -> Result<Option<Frame>, FeedError>
 pub(crate) fn first(alloc: Global, octets: &[u8]) -> Result<Option<(Frame, usize)>, FeedError>
     ensures { MatchResult result
         (λ found. MatchOption found (IsPartial octets.now)
-        (λ x. Fits x.0 × (x.1 ≤ length octets.now)
-        × (octets.now ≡ encoding x.0 ++ drop x.1 octets.now)))
+        (λ x. FrameFits x.0 × (x.1 ≤ length octets.now)
+        × (octets.now ≡ frame_encoding x.0 ++ drop x.1 octets.now)))
         (λ e. IsWrong e octets.now) }
 {
     let size = match size_of(octets) {

@@ -33,8 +33,8 @@
 //!   [`reaching`] the same calls have the clauses that a loop keeps (`specs/Calls`): moves lead
 //!   here, and the service is after turns in the order in which requests were taken, between which
 //!   it may have tried to keep what was there (`RunsAndKeeps`).
-//! - [`Service`]: what takes requests. A server of `ts_serve` stages them: `keep` keeps what came of
-//!   all of them by one append, and `is_kept` says that the answers may leave.
+//! - [`Service`]: what takes requests. A server of `ts_serve` stages them: `keep` keeps what came
+//!   of all of them by one append, and `is_kept` says that the answers may leave.
 //! - [`Connections::is_late`]: exactly by the times of `specs/Times`: an answer waits longer than
 //!   `request_ms`, and again so long after each 65,536 octets that leave; a frame takes longer to
 //!   come whole, with a second more for each mebibyte that it announces, whatever comes of it in
@@ -66,6 +66,6 @@ mod times;
 
 pub use connections::{ArriveFault, Connections};
 pub use laws::each_is_answered;
-pub use link::{Link, MAX_HELD, MAX_WAITING, Stage, Taken};
+pub use link::{Link, MAX_HELD, MAX_WAITING, Stage, TakeResult};
 pub use service::Service;
 pub use times::{Deadlines, Times};

@@ -28,7 +28,7 @@ pub enum Stage {
 
 /// What a connection's turn took.
 #[derive(Clone, Copy, Debug, PartialEq, Eq)]
-pub enum Taken {
+pub enum TakeResult {
     /// A request, and its answers wait.
     Request,
     /// A wrong frame, and its answer waits.

@@ -44,7 +44,7 @@ impl Connections {
     }
 
     /// What has come on a slot and was not taken.
-    pub fn held(&self, slot: usize) -> &[u8]
+    pub fn octets_held(&self, slot: usize) -> &[u8]
         ensures { result.now ≡ held_at self.now.links.items slot }
     {
         match self.links.get(slot) {

@@ -3,7 +3,7 @@
 ghost use Rattle.ts_links.specs.Calls.{HasReached, IsQuiet};
 
 use crate::connections::Connections;
-use crate::link::Taken;
+use crate::link::TakeResult;
 use crate::service::Service;
 
 /// `Connections::open`.
@@ -49,7 +49,7 @@ pub fn take_some<S: Service>(
 {
     for taken in 0..most {
         match table.take(slot, service, now) {
-            Ok(Taken::Nothing) => return (taken, true),
+            Ok(TakeResult::Nothing) => return (taken, true),
             Ok(_) => {}
             Err(_) => return (taken, false),
         }

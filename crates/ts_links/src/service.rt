@@ -1,11 +1,11 @@
 //! What takes requests.
 
 ghost use Rattle.std.specs.Prelude.{◌≡◌, List, true};
-ghost use Rattle.ts_question.specs.Question.{Asked};
+ghost use Rattle.ts_question.specs.Question.{StoreQuestion};
 ghost use Rattle.ts_node.specs.Machine.{store_of};
 ghost use Rattle.ts_node.specs.Ahead.{IsAhead};
 ghost use Rattle.ts_store.specs.Octets.{octets_of};
-ghost use Rattle.ts_wire.specs.Frames.{Fits};
+ghost use Rattle.ts_wire.specs.Frames.{FrameFits};
 ghost use Rattle.ts_wire.specs.declared.frame.Frame.{Frame as Request};
 ghost use Rattle.ts_serve.specs.Answering.{AnswersFrame};
 ghost use Rattle.ts_serve.specs.Turn.{HasKept, IsSettled, StagedTurn};
@@ -39,7 +39,7 @@ pub trait Service {
     /// was taken, and its answers are lost.
     fn answer(&mut self, frame: Frame) -> Result<Vec<u8>, AnswerFault>
         requires ready { is_ready self.old }
-        requires fits { Fits frame }
+        requires fits { FrameFits frame }
         ensures answers { AnswersFrame turn self.old frame result self.new }
         ensures ready { is_ready self.new };
 
@@ -59,7 +59,8 @@ impl<D: Disk, M: Machine<Command, Outcome = Outcome, Question = Question, Answer
     for Server<D, M> {
     ghost is_ready = { λ server. IsAhead D.state octets_of M.commands server.node server.staged };
 
-    ghost turn = { StagedTurn D.state (store_of Asked M.client_id M.outcome) M.basis M.is_answer };
+    ghost turn = { StagedTurn D.state (store_of StoreQuestion M.client_id M.outcome) M.basis
+        M.is_answer };
 
     ghost is_kept = { λ server. IsSettled server };
 

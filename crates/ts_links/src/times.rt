@@ -1,7 +1,8 @@
 //! When a connection is late. Moments are milliseconds on one clock, and are arguments.
 
 ghost use Rattle.std.specs.Prelude.{◌≡◌, length};
-ghost use Rattle.ts_links.specs.Times.{announced, more_time, times_came, times_left, times_opened};
+ghost use Rattle.ts_links.specs.Times.{announced_length, more_time, times_came, times_left};
+ghost use Rattle.ts_links.specs.Times.{times_opened};
 ghost use Rattle.ts_links.specs.Times.{times_refused, times_took};
 
 /// How long connections may take, in milliseconds.
@@ -44,8 +45,8 @@ impl Deadlines {
 }
 
 /// The length that the first four octets announce, or 0.
-pub(crate) fn announced(octets: &[u8]) -> u32
-    ensures { result ≡ announced octets.now }
+pub(crate) fn announced_length(octets: &[u8]) -> u32
+    ensures { result ≡ announced_length octets.now }
 {
     let [a, b, c, d, ..] = octets else {
         return 0;
@@ -59,7 +60,7 @@ pub(crate) fn announced(octets: &[u8]) -> u32
 pub(crate) fn more_time(held: &[u8]) -> u64
     ensures { result ≡ more_time held.now }
 {
-    1000 * u64::from(announced(held) / 1_048_576)
+    1000 * u64::from(announced_length(held) / 1_048_576)
 }
 
 impl Times {

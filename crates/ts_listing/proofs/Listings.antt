@@ -30,7 +30,10 @@ module _ (from : ℕ) (anchors : List TrustAnchor) (complete deltas : List Store
   three : take 64 (drop from (all_anchors ++ (all_complete ++ all_deltas)))
       ≡ take 64 (drop from all_anchors)
       ++ (take (64 - length (take 64 (drop from all_anchors))) (drop (from - length all_anchors) all_complete)
-      ++ take (64 - length (take 64 (drop from all_anchors)) - length (take (64 - length (take 64 (drop from all_anchors))) (drop (from - length all_anchors) all_complete))) (drop (from - length all_anchors - length all_complete) all_deltas))
+      ++ take (64 - length (take 64 (drop from all_anchors)) - length
+      (take (64 - length (take 64 (drop from all_anchors)))
+      (drop (from - length all_anchors) all_complete)))
+      (drop (from - length all_anchors - length all_complete) all_deltas))
   three =
       window 64 from all_anchors (all_complete ++ all_deltas)
       ∙ ap (λ l. take 64 (drop from all_anchors) ++ l) (window (64 - length (take 64 (drop from all_anchors))) (from - length all_anchors) all_complete all_deltas)
@@ -48,13 +51,24 @@ module _ (from : ℕ) (anchors : List TrustAnchor) (complete deltas : List Store
       let n : 64 - length r2 ≡ 64 - length r1 - length (take (64 - length r1) (drop (from - length all_anchors) all_complete)) =
       omega (arith, ap length f2, length-append r1 (take (64 - length r1) (drop (from - length all_anchors) all_complete))) in
       let f3 : r3 ≡ r2 ++ take (64 - length r2) (drop (from - length all_anchors - length all_complete) all_deltas) =
-      e3 ∙ ap (λ l. r2 ++ l) (rows_are (λ x. crl_encoding (crl_row x)) (64 - length r2) (from - length anchors - length complete) deltas ∙ ap (λ k. take (64 - length r2) (drop (from - k - length complete) all_deltas)) (sym a) ∙ ap (λ k. take (64 - length r2) (drop (from - length all_anchors - k) all_deltas)) (sym b)) in
-      let joined : r3 ≡ r1 ++ (take (64 - length r1) (drop (from - length all_anchors) all_complete) ++ take (64 - length r1 - length (take (64 - length r1) (drop (from - length all_anchors) all_complete))) (drop (from - length all_anchors - length all_complete) all_deltas)) =
+      e3 ∙ ap (λ l. r2 ++ l)
+      (rows_are (λ x. crl_encoding (crl_row x)) (64 - length r2)
+      (from - length anchors - length complete) deltas
+      ∙ ap (λ k. take (64 - length r2) (drop (from - k - length complete) all_deltas)) (sym a)
+      ∙ ap (λ k. take (64 - length r2) (drop (from - length all_anchors - k) all_deltas))
+      (sym b)) in
+      let joined : r3 ≡ r1 ++ (take (64 - length r1) (drop (from - length all_anchors) all_complete)
+      ++ take (64 - length r1 - length
+      (take (64 - length r1) (drop (from - length all_anchors) all_complete)))
+      (drop (from - length all_anchors - length all_complete) all_deltas)) =
       f3 ∙ ap (λ k. r2 ++ take k (drop (from - length all_anchors - length all_complete) all_deltas)) n
       ∙ ap (λ l. l ++ take (64 - length r1 - length (take (64 - length r1) (drop (from - length all_anchors) all_complete))) (drop (from - length all_anchors - length all_complete) all_deltas)) f2
       ∙ append_assoc r1 _ _ in
       joined
-      ∙ ap (λ l. l ++ (take (64 - length l) (drop (from - length all_anchors) all_complete) ++ take (64 - length l - length (take (64 - length l) (drop (from - length all_anchors) all_complete))) (drop (from - length all_anchors - length all_complete) all_deltas))) f1
+      ∙ ap (λ l. l ++ (take (64 - length l) (drop (from - length all_anchors) all_complete)
+      ++ take (64 - length l - length
+      (take (64 - length l) (drop (from - length all_anchors) all_complete)))
+      (drop (from - length all_anchors - length all_complete) all_deltas))) f1
       ∙ sym three
 
 -- ---- items that are lent
@@ -97,14 +111,33 @@ module _ (contents : Contents) (from total : ℕ) (rows : List (List ℕ)) (w : 
       let b = counted list_in w.complete contents.complete w.complete_are in
       whole from contents.anchors contents.complete contents.deltas w.row1 w.row2 rows
       (w.is1 ∙ ap anchor_rows (lent anchor_in w.first_anchors w.anchors contents.anchors 64 from w.first1 w.anchors_are))
-      (w.is2 ∙ ap (λ l. w.row1 ++ crl_rows l) (lent list_in w.first_complete w.complete contents.complete (64 - length w.row1) (from - length w.anchors) w.first2 w.complete_are ∙ ap (λ n. take (64 - length w.row1) (drop (from - n) contents.complete)) a))
-      (w.is3 ∙ ap (λ l. w.row2 ++ crl_rows l) (lent list_in w.first_deltas w.deltas contents.deltas (64 - length w.row2) (from - length w.anchors - length w.complete) w.first3 w.deltas_are ∙ ap (λ n. take (64 - length w.row2) (drop (from - n - length w.complete) contents.deltas)) a ∙ ap (λ n. take (64 - length w.row2) (drop (from - length contents.anchors - n) contents.deltas)) b))
+      (w.is2 ∙ ap (λ l. w.row1 ++ crl_rows l)
+      (lent list_in w.first_complete w.complete contents.complete (64 - length w.row1)
+      (from - length w.anchors) w.first2 w.complete_are
+      ∙ ap (λ n. take (64 - length w.row1) (drop (from - n) contents.complete)) a))
+      (w.is3 ∙ ap (λ l. w.row2 ++ crl_rows l)
+      (lent list_in w.first_deltas w.deltas contents.deltas (64 - length w.row2)
+      (from - length w.anchors - length w.complete) w.first3 w.deltas_are
+      ∙ ap (λ n. take (64 - length w.row2) (drop (from - n - length w.complete) contents.deltas)) a
+      ∙ ap (λ n. take (64 - length w.row2)
+      (drop (from - length contents.anchors - n) contents.deltas)) b))
 
   all_rows : length (store_rows contents) ≡ length w.anchors + (length w.complete + length w.deltas)
   all_rows =
       length-append (anchor_rows contents.anchors) (crl_rows contents.complete ++ crl_rows contents.deltas)
       ∙ ap (λ n. length (anchor_rows contents.anchors) + n) (length-append (crl_rows contents.complete) (crl_rows contents.deltas))
-      ∙ omega (arith, length-map contents.anchors (λ x. anchor_encoding (anchor_row x)), length-map contents.complete (λ x. crl_encoding (crl_row x)), length-map contents.deltas (λ x. crl_encoding (crl_row x)), counted anchor_in w.anchors contents.anchors w.anchors_are, counted list_in w.complete contents.complete w.complete_are, counted list_in w.deltas contents.deltas w.deltas_are)
+      ∙ omega (
+        arith,
+        length-map contents.anchors (λ x. anchor_encoding (anchor_row x)),
+        length-map
+            contents.complete (λ x. crl_encoding (crl_row x)),
+        length-map contents.deltas
+            (λ x. crl_encoding (crl_row x)),
+        counted anchor_in w.anchors contents.anchors w.anchors_are,
+        counted list_in w.complete contents.complete w.complete_are,
+        counted list_in w.deltas
+            contents.deltas w.deltas_are,
+      )
 
   pub page_written : Page total rows ≡ page from (store_rows contents)
   page_written = let n = w.total_is ∙ ap narrow (sym all_rows) in let r = rows_written in λ i. Page (n i) (r i)

@@ -25,7 +25,9 @@ module _ (others rows : List (Vec ℕ Global)) (i : ℕ) (row : Vec ℕ Global) 
       ∙ filter-append (λ r. not (list_any (bytes_eq r) (map octets_of others))) (map octets_of (take i rows)) (row.items ∷ [])
 
   -- a row that is among them is left out
-  pub left_out : (kept : List (Bor (List ℕ))) → map octets_in kept ≡ missing (map octets_of others) (map octets_of (take i rows)) → list_any (λ (other : Vec ℕ Global). bytes_eq row.items other.items) others ≡ true
+  pub left_out : (kept : List (Bor (List ℕ)))
+      → map octets_in kept ≡ missing (map octets_of others) (map octets_of (take i rows))
+      → list_any (λ (other : Vec ℕ Global). bytes_eq row.items other.items) others ≡ true
       → map octets_in kept ≡ missing (map octets_of others) (map octets_of (take (i + 1) rows))
   left_out kept so_far is =
       so_far ∙ sym (append-nil _)
@@ -33,7 +35,10 @@ module _ (others rows : List (Vec ℕ Global)) (i : ℕ) (row : Vec ℕ Global) 
       ∙ sym one_more
 
   -- another one is kept
-  pub kept_more : (kept next : List (Bor (List ℕ))) (lent : Bor (List ℕ)) → map octets_in kept ≡ missing (map octets_of others) (map octets_of (take i rows)) → list_any (λ (other : Vec ℕ Global). bytes_eq row.items other.items) others ≡ false → lent.now ≡ row.items → next ≡ kept ++ lent ∷ []
+  pub kept_more : (kept next : List (Bor (List ℕ))) (lent : Bor (List ℕ))
+      → map octets_in kept ≡ missing (map octets_of others) (map octets_of (take i rows))
+      → list_any (λ (other : Vec ℕ Global). bytes_eq row.items other.items) others ≡ false
+      → lent.now ≡ row.items → next ≡ kept ++ lent ∷ []
       → map octets_in next ≡ missing (map octets_of others) (map octets_of (take (i + 1) rows))
   kept_more kept next lent so_far is same pushed =
       ap (map octets_in) pushed ∙ map-append octets_in kept (lent ∷ [])

@@ -5,7 +5,7 @@ use Rattle.std.proofs.Math.ListN.{drop_of_length-le}
 use Rattle.std.proofs.Math.Nat.{min-eq_left, min-eq_right}
 use Rattle.std.proofs.lemmas.Bool.{cases_lt}
 use Rattle.std.proofs.lemmas.List.{take_all, take-append-drop}
-use Rattle.ts_listing.specs.Page.{joined}
+use Rattle.ts_listing.specs.Page.{join_pages}
 
 take_none : {A : Type 0} (m : ℕ) → take {A = A} m [] ≡ []
 take_none zero = refl
@@ -88,12 +88,12 @@ further {A} m (suc f) [] = ap (λ n. drop {A = A} n []) (let e : suc f + m ≡ s
 further m (suc f) (x ∷ xs) = ap (λ n. drop n (x ∷ xs)) (let e : suc f + m ≡ suc (f + m) = omega arith in e) ∙ further m f xs
 
 -- what is left after some rows
-joined_rest : (n f : ℕ) (rows : List (List ℕ)) → length rows ≤ f + 64 * n → joined n f rows ≡ drop f rows
-unfolding joined
+joined_rest : (n f : ℕ) (rows : List (List ℕ)) → length rows ≤ f + 64 * n → join_pages n f rows ≡ drop f rows
+unfolding join_pages
 joined_rest zero f rows few = sym (drop_of_length-le rows (omega (arith, few)))
 joined_rest (suc n) f rows few =
     ap (λ l. take 64 (drop f rows) ++ l) (joined_rest n (f + 64) rows (omega (arith, few)) ∙ further 64 f rows)
     ∙ take-append-drop 64 (drop f rows)
 
-pub joined_all : (n : ℕ) (rows : List (List ℕ)) → length rows ≤ 64 * n → joined n 0 rows ≡ rows
+pub joined_all : (n : ℕ) (rows : List (List ℕ)) → length rows ≤ 64 * n → join_pages n 0 rows ≡ rows
 joined_all n rows few = joined_rest n 0 rows (omega (arith, few))

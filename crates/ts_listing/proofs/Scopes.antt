@@ -19,7 +19,10 @@ abbrev value_of : Extension → List ℕ
 value_of x = x.extnValue
 
 -- that of the extension that is found
-pub scope_is : (r : Option Lent) (xs : List Located) → option_map located_as r ≡ find (λ x. bytes_eq x.extnID (identifier_of IssuingDistributionPoint)) xs → option_map value_in r ≡ scope_among (map unlocated xs)
+pub scope_is : (r : Option Lent) (xs : List Located)
+    → option_map located_as r ≡ find
+    (λ x. bytes_eq x.extnID (identifier_of IssuingDistributionPoint)) xs
+    → option_map value_in r ≡ scope_among (map unlocated xs)
 scope_is r xs e =
     seen-twice extension_as value_of r
     ∙ ap (option_map value_of) (seen-twice located_as unlocated r ∙ ap (option_map unlocated) e ∙ unlocated-find IssuingDistributionPoint xs)

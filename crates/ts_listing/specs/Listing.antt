@@ -9,18 +9,18 @@ use Rattle.ts_name.specs.NameEncoding.{encoded_rdn}
 use Rattle.ts_field.specs.declared.time.Time.{Time}
 use Rattle.ts_cert.specs.CertView.{certificate_in}
 use Rattle.ts_crl.specs.List.{CertificateList}
-use Rattle.ts_crl.specs.Values.{number_of, base_of, extensions_of, is_known}
+use Rattle.ts_crl.specs.Values.{crl_number, base_number, list_extensions, is_known}
 use Rattle.ts_store.specs.Commands.{purposes_encoding}
 use Rattle.ts_store.specs.Lists.{list_in}
-use Rattle.ts_store.specs.Store.{State}
+use Rattle.ts_store.specs.Store.{StoreState}
 use Rattle.ts_store.specs.declared.anchor.TrustAnchor.{TrustAnchor}
 use Rattle.ts_store.specs.declared.stored.StoredCrl.{StoredCrl}
 use Rattle.ts_history.specs.Contents.{Contents, contents_of}
 use Rattle.ts_question.specs.Rows.{AnchorLine, CrlLine, anchor_encoding, crl_encoding}
 
 -- octets, of which those behind the first 4,096 are left out
-abbrev pub cut : List ℕ → List ℕ
-cut octets = take 4096 octets
+abbrev pub first_octets : List ℕ → List ℕ
+first_octets octets = take 4096 octets
 
 -- the contents octets of a Name (RFC 5280 4.1.2.4)
 abbrev pub name_content : List (List Attr) → List ℕ
@@ -35,8 +35,8 @@ narrow n = min n 4294967295
 abbrev pub anchor_row : TrustAnchor → AnchorLine
 anchor_row a = record {
   id = a.id;
-  subject = cut (name_content (certificate_in a.certificate).tbsCertificate.subject);
-  purposes = cut (purposes_encoding a.purposes);
+  subject = first_octets (name_content (certificate_in a.certificate).tbsCertificate.subject);
+  purposes = first_octets (purposes_encoding a.purposes);
 }
 
 -- ---- CRLs
@@ -54,10 +54,10 @@ scope_among xs = option_map (λ x. x.extnValue) (find (is_known IssuingDistribut
 abbrev pub crl_row_of : List ℕ → ℕ → CertificateList → CrlLine
 crl_row_of id size c = record {
   id = id;
-  issuer = cut (name_content c.tbsCertList.issuer);
-  number = cut (unwrap_or (number_of c) []);
-  base = cut (unwrap_or (base_of c) []);
-  scope = cut (unwrap_or (scope_among (extensions_of c)) []);
+  issuer = first_octets (name_content c.tbsCertList.issuer);
+  number = first_octets (unwrap_or (crl_number c) []);
+  base = first_octets (unwrap_or (base_number c) []);
+  scope = first_octets (unwrap_or (scope_among (list_extensions c)) []);
   this_update = c.tbsCertList.thisUpdate.moment;
   next_update = next_of c.tbsCertList.thisUpdate c.tbsCertList.nextUpdate;
   entries = narrow (length (unwrap_or c.tbsCertList.revokedCertificates []));
@@ -80,5 +80,5 @@ abbrev pub store_rows : Contents → List (List ℕ)
 store_rows c = anchor_rows c.anchors ++ (crl_rows c.complete ++ crl_rows c.deltas)
 
 -- what a store holds
-abbrev pub listing : State → List (List ℕ)
+abbrev pub listing : StoreState → List (List ℕ)
 listing store = store_rows (contents_of store.tables)

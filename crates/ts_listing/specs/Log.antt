@@ -14,7 +14,7 @@ use Rattle.ts_store.specs.declared.outcome.Refusal.TheVariants.{StoreFull, Delta
 use Rattle.ts_store.specs.declared.outcome.Refusal.TheVariants.{RelativeName, Indirect}
 use Rattle.ts_history.specs.Outcome.{outcome_after}
 use Rattle.ts_question.specs.Rows.{CommandLine, command_encoding}
-use Rattle.ts_listing.specs.Listing.{cut, narrow}
+use Rattle.ts_listing.specs.Listing.{first_octets, narrow}
 
 -- the octet of a command's kind
 abbrev pub kind_of : Command → ℕ
@@ -41,9 +41,9 @@ about_of (SetPurposes id anchor purposes) = anchor
 about_of (Noop id) = []
 
 -- the purposes that it sets, as it writes them
-abbrev pub purposes_of : Command → List ℕ
-purposes_of (SetPurposes id anchor purposes) = purposes_encoding purposes
-purposes_of other = []
+abbrev pub purposes_set : Command → List ℕ
+purposes_set (SetPurposes id anchor purposes) = purposes_encoding purposes
+purposes_set other = []
 
 abbrev pub refusal_code : Refusal → ℕ
 refusal_code AnchorThere = 1
@@ -76,7 +76,7 @@ command_row c o = record {
   kind = kind_of c;
   size = size_of c;
   about = about_of c;
-  purposes = cut (purposes_of c);
+  purposes = first_octets (purposes_set c);
   outcome = outcome_code o;
   detail = detail_of o;
 }

@@ -13,6 +13,6 @@ rows_in (Page total rows) = rows
 rows_in other = []
 
 -- those of so many pages, each after the rows of the one before it
-unfoldable pub joined : ℕ → ℕ → List (List ℕ) → List (List ℕ)
-joined zero from rows = []
-joined (suc n) from rows = rows_in (page from rows) ++ joined n (from + 64) rows
+unfoldable pub join_pages : ℕ → ℕ → List (List ℕ) → List (List ℕ)
+join_pages zero from rows = []
+join_pages (suc n) from rows = rows_in (page from rows) ++ join_pages n (from + 64) rows

@@ -4,17 +4,17 @@ ghost use Rattle.std.specs.Prelude.{◌≡◌, ◌≤◌, [], length, option_map
 ghost use Rattle.ts_name.specs.NameView.{rdns_in};
 ghost use Rattle.ts_crl.specs.EntryView.{entries_in};
 ghost use Rattle.ts_crl.specs.ListView.{crl_in};
-ghost use Rattle.ts_crl.specs.Values.{extensions_of};
+ghost use Rattle.ts_crl.specs.Values.{list_extensions};
 ghost use Rattle.ts_ext.specs.ExtensionView.{extensions_in};
 ghost use Rattle.ts_question.specs.Rows.{CrlFits, crl_encoding};
 ghost use Rattle.ts_question.specs.RowView.{crl_line};
-ghost use Rattle.ts_listing.specs.Listing.{crl_row, crl_row_of, cut, name_content, narrow};
+ghost use Rattle.ts_listing.specs.Listing.{crl_row, crl_row_of, first_octets, name_content, narrow};
 ghost use Rattle.ts_listing.specs.Listing.{next_of, scope_among};
 
 use crate::digests::is_digest;
 use crate::page::{cut, narrow};
 use std::alloc::{AllocError, Global};
-use ts_crl::{Crl, Revoked};
+use ts_crl::{Crl, RevokedEntries};
 use ts_ext::{CrlNumber, Extensions, Known};
 use ts_name::Name;
 use ts_question::CrlRow;
@@ -22,7 +22,7 @@ use ts_store::StoredCrl;
 
 /// The contents octets of a name, cut.
 pub(crate) fn name_octets<'a>(name: Name<'a>) -> &'a [u8]
-    ensures front { result.now ≡ cut (name_content (rdns_in name.entry)) }
+    ensures front { result.now ≡ first_octets (name_content (rdns_in name.entry)) }
     ensures short { length result.now ≤ 4096 }
 {
     cut(name.element.content)
@@ -30,7 +30,8 @@ pub(crate) fn name_octets<'a>(name: Name<'a>) -> &'a [u8]
 
 /// The contents octets of a number, cut; none where there is none.
 fn number_octets<'a>(number: Option<CrlNumber<'a>>) -> &'a [u8]
-    ensures front { result.now ≡ cut (unwrap_or (option_map (λ n. n.octets.now) number.entry) []) }
+    ensures front { result.now ≡ first_octets
+        (unwrap_or (option_map (λ n. n.octets.now) number.entry) []) }
     ensures short { length result.now ≤ 4096 }
 {
     match number {
@@ -42,7 +43,7 @@ fn number_octets<'a>(number: Option<CrlNumber<'a>>) -> &'a [u8]
 /// The octets of the extension that says what a CRL covers, cut; none where there is none.
 fn scope_in<'a>(extensions: Extensions<'a>) -> &'a [u8]
     ensures front { result.now
-        ≡ cut (unwrap_or (scope_among (extensions_in extensions.entry)) []) }
+        ≡ first_octets (unwrap_or (scope_among (extensions_in extensions.entry)) []) }
     ensures short { length result.now ≤ 4096 }
 {
     match extensions.find(Known::IssuingDistributionPoint) {
@@ -54,7 +55,7 @@ fn scope_in<'a>(extensions: Extensions<'a>) -> &'a [u8]
 /// The octets of what a CRL says that it covers, cut; none where it says nothing.
 fn scope_octets<'a>(crl: Crl<'a>) -> &'a [u8]
     ensures front { result.now
-        ≡ cut (unwrap_or (scope_among (extensions_of (crl_in crl.entry))) []) }
+        ≡ first_octets (unwrap_or (scope_among (list_extensions (crl_in crl.entry))) []) }
     ensures short { length result.now ≤ 4096 }
 {
     match crl.extensions() {
@@ -64,7 +65,7 @@ fn scope_octets<'a>(crl: Crl<'a>) -> &'a [u8]
 }
 
 /// How many entries there are. Each is passed once.
-fn count_of(revoked: Revoked<'_>) -> u32
+fn count_of(revoked: RevokedEntries<'_>) -> u32
     ensures { result ≡ narrow (length (entries_in revoked.entry)) }
 {
     let mut count: u32 = 0;

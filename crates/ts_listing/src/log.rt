@@ -5,7 +5,7 @@ ghost use Rattle.ts_question.specs.Rows.{command_encoding};
 ghost use Rattle.ts_question.specs.RowView.{command_line};
 ghost use Rattle.ts_listing.specs.Listing.{narrow};
 ghost use Rattle.ts_listing.specs.Log.{about_of, command_row, detail_of, kind_of, outcome_code};
-ghost use Rattle.ts_listing.specs.Log.{purposes_of, refusal_code, size_of};
+ghost use Rattle.ts_listing.specs.Log.{purposes_set, refusal_code, size_of};
 ghost use Rattle.ts_listing.specs.Page.{page};
 ghost use Rattle.ts_listing.specs.View.{about_in, line_in};
 
@@ -74,7 +74,7 @@ fn about_of(command: &Command) -> Option<[u8; 32]>
 ///
 /// Out of memory.
 pub fn purposes_of(alloc: Global, command: &Command) -> Result<Vec<u8>, AllocError>
-    ensures { IfOk result (λ octets. octets.items ≡ purposes_of command.now) }
+    ensures { IfOk result (λ octets. octets.items ≡ purposes_set command.now) }
 {
     match command {
         Command::SetPurposes { purposes, .. } => purposes_octets(alloc, purposes),
@@ -126,7 +126,7 @@ fn detail_of(outcome: Outcome) -> u32
 impl Entry {
     /// A command, and what it came to. It takes no memory but what its purposes have.
     pub fn of(command: &Command, purposes: Vec<u8>, outcome: Outcome) -> Entry
-        requires { purposes.items ≡ purposes_of command.now }
+        requires { purposes.items ≡ purposes_set command.now }
         ensures { line_in result ≡ command_row command.now outcome }
     {
         Entry {

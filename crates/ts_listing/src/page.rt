@@ -1,7 +1,7 @@
 //! Pages.
 
 ghost use Rattle.std.specs.Prelude.{◌≡◌, ◌≤◌, ◌+◌, take, drop, length};
-ghost use Rattle.ts_listing.specs.Listing.{cut, narrow};
+ghost use Rattle.ts_listing.specs.Listing.{first_octets, narrow};
 
 /// The most rows of a page.
 pub(crate) const MAX_ROWS: usize = 64;
@@ -50,7 +50,7 @@ pub(crate) fn window<T>(items: &[T], from: usize, most: usize) -> &[T]
 
 /// Octets, of which those behind the first 4,096 are left out.
 pub(crate) fn cut(octets: &[u8]) -> &[u8]
-    ensures front { result.now ≡ cut octets.now }
+    ensures front { result.now ≡ first_octets octets.now }
     ensures short { length result.now ≤ 4096 }
 {
     front(octets, MAX_CUT)

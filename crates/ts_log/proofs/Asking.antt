@@ -12,7 +12,10 @@ use Rattle.ts_log.specs.Steps.{asks}
 pub asks_is : {C : Type 0} (config : Config) (before now : ℕ → Option C) (node : ℕ) → asks config (length (prefix before)) (length (prefix now)) node ≡ ask_back config before now node
 asks_is {C} config before now node = go (nat_lt (length (prefix before)) (length (prefix now))) (nat_le last_position (length (prefix now)))
   where
-    go : (grown full : Bool) → (if grown then (if full then [] else send config.me node (Ask (suc (length (prefix now)))) ∷ []) else []) ≡ (if grown then ask_next {C = C} config node (if full then None else Some (suc (length (prefix now)))) else [])
+    go : (grown full : Bool)
+        → (if grown then (if full then [] else send config.me node (Ask (suc (length (prefix now))))
+        ∷ []) else []) ≡ (if grown then ask_next {C = C} config node
+        (if full then None else Some (suc (length (prefix now)))) else [])
     go true true = refl
     go true false = refl
     go false full = refl
@@ -28,5 +31,7 @@ pub asks_one : {C : Type 0} (config : Config) (before now node : ℕ) → before
 asks_one {C} config before now node l m =
     let s : suc now ≡ now + 1 = omega arith in
     by_test (λ (ms : List (Message C)). ms ≡ send config.me node (Ask (now + 1)) ∷ []) (nat_lt before now) (if nat_le last_position now then [] else send config.me node (Ask (suc now)) ∷ []) []
-    (λ e. by_test (λ (ms : List (Message C)). ms ≡ send config.me node (Ask (now + 1)) ∷ []) (nat_le last_position now) [] (send config.me node (Ask (suc now)) ∷ []) (λ f. absurd (grind (arith, nat_tests))) (λ _. rw s refl))
+    (λ e. by_test (λ (ms : List (Message C)). ms ≡ send config.me node (Ask (now + 1)) ∷ [])
+    (nat_le last_position now) [] (send config.me node (Ask (suc now)) ∷ [])
+    (λ f. absurd (grind (arith, nat_tests))) (λ _. rw s refl))
     (λ e. absurd (grind (arith, nat_tests)))

@@ -3,7 +3,7 @@ use Rattle.std.proofs.Common.{◌≡◌, ◌==◌, ◌∙◌, ◌∷◌, ◌++�
 use Rattle.std.proofs.lemmas.Bool.Decides.{Decides-eqb}
 use Rattle.ts_synod.specs.declared.message.Fact.{Fact}
 use Rattle.ts_synod.specs.declared.message.Fact.TheVariants.{Chosen}
-use Rattle.ts_synod.specs.Lists.{put}
+use Rattle.ts_synod.specs.Lists.{update_at}
 use Rattle.ts_synod.specs.Force.{command_at, first_some, learned_command, log_of}
 use Rattle.ts_synod.proofs.Same.{learned_push}
 use Rattle.ts_synod.proofs.Sets.{by_test}
@@ -21,16 +21,16 @@ not_true : (b : Bool) → (b ≡ true → ⊥) → b ≡ false
 not_true true h = absurd (h refl)
 not_true false h = refl
 
-pub log_learns : {C : Type 0} (facts : List (Fact C)) (q : ℕ) (c : C) → is_some (log_of facts q) ≡ false → put (log_of facts) q (Some c) ≡ log_of (facts ++ Chosen q c ∷ [])
+pub log_learns : {C : Type 0} (facts : List (Fact C)) (q : ℕ) (c : C) → is_some (log_of facts q) ≡ false → update_at (log_of facts) q (Some c) ≡ log_of (facts ++ Chosen q c ∷ [])
 log_learns {C} facts q c new = λ i p. at p i
   where
-    at : (p : ℕ) → put (log_of facts) q (Some c) p ≡ log_of (facts ++ Chosen q c ∷ []) p
+    at : (p : ℕ) → update_at (log_of facts) q (Some c) p ≡ log_of (facts ++ Chosen q c ∷ []) p
     at p = go (p == q) refl ∙ sym (learned_push facts p (Chosen q c))
       where
         other : (p == q) ≡ false → (q == p) ≡ false
         other e = not_true (q == p) (λ s. let k = (Decides-eqb p q).1 (sym ((Decides-eqb q p).0 s)) in true≢false (sym k ∙ e))
 
-        go : (b : Bool) → (p == q) ≡ b → put (log_of facts) q (Some c) p ≡ first_some (learned_command p facts) (command_at p (Chosen q c))
+        go : (b : Bool) → (p == q) ≡ b → update_at (log_of facts) q (Some c) p ≡ first_some (learned_command p facts) (command_at p (Chosen q c))
         go true e =
             let same : p ≡ q = (Decides-eqb p q).0 e in
             let back : (q == p) ≡ true = (Decides-eqb q p).1 (sym same) in

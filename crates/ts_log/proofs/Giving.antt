@@ -25,14 +25,19 @@ module _ {C : Type 0} (config : Config) (from : ℕ) (learned : ℕ → Option C
       let all : n - 0 ≡ n = omega arith in
       rw (start, all) refl
 
-  pub goes_on : (p n given : ℕ) (c : C) (messages more : List (Message C)) → given < n → learned (p + given) ≡ Some c → more ≡ messages ++ send config.me from (Give (p + given) c) ∷ [] → more ++ left config from p n learned (given + 1) ≡ messages ++ left config from p n learned given
+  pub goes_on : (p n given : ℕ) (c : C) (messages more : List (Message C)) → given < n
+      → learned (p + given) ≡ Some c → more ≡ messages ++ send config.me from (Give (p + given) c)
+      ∷ [] → more ++ left config from p n learned (given + 1) ≡ messages
+      ++ left config from p n learned given
   goes_on p n given c messages more inside e is =
       let k = n - (given + 1) in
       let m = send config.me from (Give (p + given) c) in
       let rest = left config from p n learned (given + 1) in
       let one_less : n - given ≡ suc k = omega arith in
       let next : suc (p + given) ≡ p + (given + 1) = omega arith in
-      let same : left config from p n learned given ≡ m ∷ rest = ap (λ l. gives config from (p + given) (leading l (p + given) learned)) one_less ∙ one k (p + given) c e ∙ ap (λ q. m ∷ gives config from q (leading k q learned)) next in
+      let same : left config from p n learned given ≡ m
+      ∷ rest = ap (λ l. gives config from (p + given) (leading l (p + given) learned)) one_less
+      ∙ one k (p + given) c e ∙ ap (λ q. m ∷ gives config from q (leading k q learned)) next in
       ap (λ ms. ms ++ rest) is ∙ append_assoc messages (m ∷ []) rest ∙ ap (λ later. messages ++ later) (sym same)
 
   pub breaks_off : (p n given : ℕ) → learned (p + given) ≡ None → left config from p n learned given ≡ []

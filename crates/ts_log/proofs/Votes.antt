@@ -2,11 +2,11 @@
 use Rattle.std.proofs.Common.{◌≡◌, ◌+◌, ◌<◌, ◌≤◌, ◌∙◌, ℕ, suc, Bool, false, nat_lt, Option, Some, None, if◌then◌else◌, refl, ap, arith, add-one}
 use Rattle.std.proofs.lemmas.Bool.Decides.{nat_tests}
 use Rattle.ts_synod.specs.declared.message.Vote.{Vote}
-use Rattle.ts_synod.specs.Lists.{put}
+use Rattle.ts_synod.specs.Lists.{update_at}
 use Rattle.ts_synod.specs.Force.{greater_vote}
 use Rattle.ts_synod.specs.Majority.{count, is_majority}
 use Rattle.ts_synod.specs.Config.{Config}
-use Rattle.ts_synod.specs.Log.{Received, count_votes, is_vote_in, keep_received, with_vote}
+use Rattle.ts_synod.specs.Log.{ReceivedVotes, count_votes, is_vote_in, keep_received, with_vote}
 use Rattle.ts_synod.proofs.Sets.{by_test}
 use Rattle.ts_log.proofs.Places.{put_own}
 
@@ -29,11 +29,15 @@ greater_old (Some w) u v is high =
     let k : w.ballot ≡ u.ballot = ap (λ (x : Vote _). x.ballot) same in
     by_test (λ o. o ≡ Some w) (nat_lt w.ballot v.ballot) (Some v) (Some w) (λ e. absurd (grind (arith, nat_tests))) (λ _. refl)
 
-pub with_new : {C : Type 0} (votes : ℕ → Option (Vote C)) (from : ℕ) (v : Vote C) → IsBelow (votes from) v.ballot → with_vote votes from v ≡ put votes from (Some v)
-with_new votes from v low = ap (put votes from) (greater_new (votes from) v low)
+pub with_new : {C : Type 0} (votes : ℕ → Option (Vote C)) (from : ℕ) (v : Vote C) → IsBelow (votes from) v.ballot → with_vote votes from v ≡ update_at votes from (Some v)
+with_new votes from v low = ap (update_at votes from) (greater_new (votes from) v low)
 
 pub with_old : {C : Type 0} (votes : ℕ → Option (Vote C)) (from : ℕ) (u v : Vote C) → votes from ≡ Some u → v.ballot ≤ u.ballot → with_vote votes from v ≡ votes
-with_old votes from u v is high = ap (put votes from) (greater_old (votes from) u v is high) ∙ put_own votes from
+with_old votes from u v is high = ap (update_at votes from) (greater_old (votes from) u v is high) ∙ put_own votes from
 
-pub no_majority : {C : Type 0} (config : Config) (learned : ℕ → Option C) (received : Received C) (p b : ℕ) (c : C) (votes : ℕ → Option (Vote C)) → is_majority config.nodes (λ a. is_vote_in b (votes a)) ≡ false → count_votes config learned received p b c votes ≡ keep_received learned (put received p votes)
+pub no_majority : {C : Type 0} (config : Config) (learned : ℕ → Option C)
+    (received : ReceivedVotes C) (p b : ℕ) (c : C) (votes : ℕ → Option (Vote C))
+    → is_majority config.nodes (λ a. is_vote_in b (votes a)) ≡ false
+    → count_votes config learned received p b c votes ≡ keep_received learned
+    (update_at received p votes)
 no_majority config learned received p b c votes e = rw e refl

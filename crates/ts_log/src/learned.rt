@@ -4,7 +4,7 @@ ghost use Rattle.std.specs.Prelude.{◌≡◌, ◌≤◌, ◌∷◌, ℕ, OnOk, 
 ghost use Rattle.std.specs.Option.{option_copied};
 ghost use Rattle.std.specs.Ordering.{nat_cmp};
 ghost use Rattle.std.specs.BTreeMap.{get};
-ghost use Rattle.ts_synod.specs.Lists.{put};
+ghost use Rattle.ts_synod.specs.Lists.{update_at};
 ghost use Rattle.ts_synod.specs.Log.{prefix};
 ghost use Rattle.ts_log.specs.Maps.{learned_in};
 
@@ -18,18 +18,18 @@ pub const LAST_POSITION: u32 = 1_000_000;
 /// The learned commands. The count is kept beside the map, so that no call walks over the positions
 /// before it.
 #[derive(Drop)]
-pub struct Learned<C> {
+pub struct LearnedCommands<C> {
     commands: BTreeMap<u32, Option<C>>,
     count: u32,
     ghost counted: { count ≡ length (prefix (learned_in commands)) },
 }
 
-impl<C: Drop> Learned<C> {
+impl<C: Drop> LearnedCommands<C> {
     /// No command is learned.
-    pub fn new(alloc: Global) -> Learned<C>
+    pub fn new(alloc: Global) -> LearnedCommands<C>
         ensures { (p : ℕ) → learned_in result.commands p ≡ None }
     {
-        Learned {
+        LearnedCommands {
             commands: BTreeMap::new(alloc),
             count: 0,
         }
@@ -72,7 +72,7 @@ impl<C: Drop> Learned<C> {
     /// that join them, and so over each position once in the life of a log.
     pub fn count_with(&self, position: u32, command: &C) -> u32
         ensures count { result ≡ length
-            (prefix (put (learned_in self.now.commands) position (Some command.now))) }
+            (prefix (update_at (learned_in self.now.commands) position (Some command.now))) }
         ensures most { result ≤ LAST_POSITION }
     {
         let _command = command;
@@ -91,9 +91,9 @@ impl<C: Drop> Learned<C> {
     pub fn put(&mut self, position: u32, command: C, count: u32)
         requires place { is_some (get nat_cmp self.old.commands position) ≡ true }
         requires count { count ≡ length
-            (prefix (put (learned_in self.old.commands) position (Some command))) }
+            (prefix (update_at (learned_in self.old.commands) position (Some command))) }
         ensures { learned_in self.new.commands
-            ≡ put (learned_in self.old.commands) position (Some command) }
+            ≡ update_at (learned_in self.old.commands) position (Some command) }
     {
         put_at(&mut self.commands, position, Some(command));
         self.count = count;

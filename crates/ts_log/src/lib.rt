@@ -32,4 +32,4 @@ mod log;
 mod received;
 
 pub use learned::LAST_POSITION;
-pub use log::{Log, PositionsExhausted, Step};
+pub use log::{Log, LogEffect, PositionsExhausted};

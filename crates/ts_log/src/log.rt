@@ -8,20 +8,20 @@ ghost use Rattle.std.specs.BTreeMap.{get};
 ghost use Rattle.ts_synod.specs.declared.message.Body.TheVariants.{Give};
 ghost use Rattle.ts_synod.specs.declared.message.Fact.{Fact};
 ghost use Rattle.ts_synod.specs.declared.message.Fact.TheVariants.{Chosen};
-ghost use Rattle.ts_synod.specs.Lists.{put};
+ghost use Rattle.ts_synod.specs.Lists.{update_at};
 ghost use Rattle.ts_synod.specs.Majority.{is_majority};
 ghost use Rattle.ts_synod.specs.Messages.{send};
-ghost use Rattle.ts_synod.specs.Log.{ask_back, block, catch_up, count_votes, is_vote_in};
+ghost use Rattle.ts_synod.specs.Log.{ask_back, ask_length, catch_up, count_votes, is_vote_in};
 ghost use Rattle.ts_synod.specs.Log.{keep_received, learn, next_position, on_accepted, on_ask};
 ghost use Rattle.ts_synod.specs.Log.{on_give, prefix, with_vote};
 ghost use Rattle.ts_log.specs.Maps.{HasPlaceIn};
 ghost use Rattle.ts_log.specs.Log.{config_of, learned_of, position_of, received_of, StandsFor};
-ghost use Rattle.ts_log.specs.Log.{Unchanged};
+ghost use Rattle.ts_log.specs.Log.{IsUnchanged};
 ghost use Rattle.ts_log.specs.Steps.{IsLatest, Makes, asks, learned_after, only_messages};
 ghost use Rattle.ts_log.specs.Steps.{received_after};
 
-use crate::learned::{LAST_POSITION, Learned};
-use crate::received::Received;
+use crate::learned::{LAST_POSITION, LearnedCommands};
+use crate::received::ReceivedVotes;
 use std::alloc::{AllocError, Global};
 use ts_synod::{Ballot, Body, Command, Fact, Message, Vote, broadcast_to_others};
 
@@ -31,13 +31,13 @@ pub struct Log<C> {
     alloc: Global,
     me: u8,
     nodes: u8,
-    learned: Learned<C>,
-    received: Received<C>,
+    learned: LearnedCommands<C>,
+    received: ReceivedVotes<C>,
 }
 
 /// How a step changes a log.
 #[derive(Drop)]
-enum Change<C> {
+enum LogChange<C> {
     Nothing,
     Receive {
         position: u32,
@@ -53,10 +53,10 @@ enum Change<C> {
 
 /// What is to be kept on stable storage, what is to be sent after that, and the change of the log.
 #[derive(Drop)]
-pub struct Step<C> {
+pub struct LogEffect<C> {
     pub facts: Vec<Fact<C>>,
     pub messages: Vec<Message<C>>,
-    change: Change<C>,
+    change: LogChange<C>,
 }
 
 /// All positions of the log are learned without a gap.
@@ -74,8 +74,8 @@ impl<C: Command> Log<C> {
             alloc,
             me,
             nodes,
-            learned: Learned::new(alloc),
-            received: Received::new(alloc),
+            learned: LearnedCommands::new(alloc),
+            received: ReceivedVotes::new(alloc),
         }
     }
 
@@ -152,14 +152,14 @@ impl<C: Command> Log<C> {
     }
 
     /// The step that keeps and changes nothing, and sends these messages.
-    fn only_messages(&self, messages: Vec<Message<C>>) -> Step<C>
+    fn only_messages(&self, messages: Vec<Message<C>>) -> LogEffect<C>
         ensures step { Makes self.now result (only_messages self.now messages.items) }
         ensures latest { IsLatest self.now result }
     {
-        Step {
+        LogEffect {
             facts: Vec::new(self.alloc),
             messages,
-            change: Change::Nothing,
+            change: LogChange::Nothing,
         }
     }
 
@@ -170,11 +170,11 @@ impl<C: Command> Log<C> {
         command: &C,
         count: u32,
         messages: Vec<Message<C>>,
-    ) -> Result<Step<C>, AllocError>
+    ) -> Result<LogEffect<C>, AllocError>
         requires place { is_some (get nat_cmp self.now.learned.commands position) ≡ true }
         requires new { is_some (learned_of self.now position) ≡ false }
         requires count { count ≡ length
-            (prefix (put (learned_of self.now) position (Some command.now))) }
+            (prefix (update_at (learned_of self.now) position (Some command.now))) }
         ensures step { IfOk result (λ step. Makes self.now step
             (learn (learned_of self.now) (received_of self.now) position command.now
             messages.items)) }
@@ -185,12 +185,12 @@ impl<C: Command> Log<C> {
             position,
             command: command.try_copy(self.alloc)?,
         })?;
-        let change = Change::Learn {
+        let change = LogChange::Learn {
             position,
             command: command.try_copy(self.alloc)?,
             count,
         };
-        Ok(Step {
+        Ok(LogEffect {
             facts,
             messages,
             change,
@@ -234,7 +234,7 @@ impl<C: Command> Log<C> {
             (HasPlaceIn (get nat_cmp self.new.received.votes position) from) }
         ensures command { OnOk result (is_some (get nat_cmp self.new.learned.commands position)
             ≡ true) }
-        ensures same { Unchanged self.old self.new }
+        ensures same { IsUnchanged self.old self.new }
     {
         self.learned.reserve(position)?;
         self.received.reserve(position, from)
@@ -247,11 +247,11 @@ impl<C: Command> Log<C> {
         position: u32,
         ballot: Ballot,
         command: &C,
-    ) -> Result<Step<C>, AllocError>
+    ) -> Result<LogEffect<C>, AllocError>
         requires place { HasPlaceIn (get nat_cmp self.now.received.votes position) from }
         ensures step { IfOk result (λ step. Makes self.now step
             (keep_received (learned_of self.now)
-            (put (received_of self.now) position
+            (update_at (received_of self.now) position
             (with_vote (received_of self.now position) from
             (record { ballot = ballot; command = command.now }))))) }
         ensures latest { IfOk result (λ step. IsLatest self.now step) }
@@ -265,10 +265,10 @@ impl<C: Command> Log<C> {
             ballot,
             command: command.try_copy(self.alloc)?,
         };
-        Ok(Step {
+        Ok(LogEffect {
             facts: Vec::new(self.alloc),
             messages: Vec::new(self.alloc),
-            change: Change::Receive {
+            change: LogChange::Receive {
                 position,
                 from,
                 vote,
@@ -283,7 +283,7 @@ impl<C: Command> Log<C> {
         position: u32,
         ballot: Ballot,
         command: &C,
-    ) -> Result<Step<C>, AllocError>
+    ) -> Result<LogEffect<C>, AllocError>
         requires nodes { self.now.nodes ≤ 9 }
         requires vote { HasPlaceIn (get nat_cmp self.now.received.votes position) from }
         requires command { is_some (get nat_cmp self.now.learned.commands position) ≡ true }
@@ -311,13 +311,13 @@ impl<C: Command> Log<C> {
         position: u32,
         ballot: Ballot,
         command: &C,
-    ) -> Result<Step<C>, AllocError>
+    ) -> Result<LogEffect<C>, AllocError>
         requires { (config_of self.old).nodes ≤ 9 }
         ensures step { IfOk result (λ step. Makes self.new step
             (on_accepted (config_of self.old) (learned_of self.old)
             (received_of self.old) from position ballot command.now)) }
         ensures latest { IfOk result (λ step. IsLatest self.new step) }
-        ensures same { Unchanged self.old self.new }
+        ensures same { IsUnchanged self.old self.new }
     {
         if self.learned.is_learned(position) {
             return Ok(self.only_messages(Vec::new(self.alloc)));
@@ -348,12 +348,17 @@ impl<C: Command> Log<C> {
     }
 
     /// The step that answers a Give.
-    pub fn on_give(&mut self, from: u8, position: u32, command: &C) -> Result<Step<C>, AllocError>
+    pub fn on_give(
+        &mut self,
+        from: u8,
+        position: u32,
+        command: &C,
+    ) -> Result<LogEffect<C>, AllocError>
         ensures step { IfOk result (λ step. Makes self.new step
             (on_give (config_of self.old) (learned_of self.old)
             (received_of self.old) from position command.now)) }
         ensures latest { IfOk result (λ step. IsLatest self.new step) }
-        ensures same { Unchanged self.old self.new }
+        ensures same { IsUnchanged self.old self.new }
     {
         if self.learned.is_learned(position) {
             return Ok(self.only_messages(Vec::new(self.alloc)));
@@ -364,13 +369,13 @@ impl<C: Command> Log<C> {
     }
 
     /// The answer to a Give of a position that is not learned, where there is a place for it.
-    fn learn_given(&self, from: u8, position: u32, command: &C) -> Result<Step<C>, AllocError>
+    fn learn_given(&self, from: u8, position: u32, command: &C) -> Result<LogEffect<C>, AllocError>
         requires place { is_some (get nat_cmp self.now.learned.commands position) ≡ true }
         requires new { is_some (learned_of self.now position) ≡ false }
         ensures step { IfOk result (λ step. Makes self.now step
             (learn (learned_of self.now) (received_of self.now) position command.now
             (ask_back (config_of self.now) (learned_of self.now)
-            (put (learned_of self.now) position (Some command.now)) from))) }
+            (update_at (learned_of self.now) position (Some command.now)) from))) }
         ensures latest { IfOk result (λ step. IsLatest self.now step) }
     {
         let count = self.learned.count_with(position, command);
@@ -411,7 +416,7 @@ impl<C: Command> Log<C> {
     }
 
     /// The step that answers an Ask.
-    pub fn on_ask(&self, from: u8, position: u32) -> Result<Step<C>, AllocError>
+    pub fn on_ask(&self, from: u8, position: u32) -> Result<LogEffect<C>, AllocError>
         ensures step { IfOk result (λ step. Makes self.now step
             (only_messages self.now (on_ask (config_of self.now)
             (learned_of self.now) from position))) }
@@ -422,7 +427,7 @@ impl<C: Command> Log<C> {
     }
 
     /// The step that asks all other nodes for the position after the prefix.
-    pub fn catch_up(&self) -> Result<Step<C>, AllocError>
+    pub fn catch_up(&self) -> Result<LogEffect<C>, AllocError>
         requires { (config_of self.now).nodes ≤ 9 }
         ensures step { IfOk result (λ step. Makes self.now step
             (only_messages self.now (catch_up (config_of self.now) (learned_of self.now)))) }
@@ -439,22 +444,22 @@ impl<C: Command> Log<C> {
     }
 
     /// How many commands are learned from position 1 on without a gap once the step is kept.
-    pub fn prefix_after(&self, step: &Step<C>) -> u32
+    pub fn prefix_after(&self, step: &LogEffect<C>) -> u32
         requires { IsLatest self.now step.now }
         ensures { result ≡ length (prefix (learned_after self.now step.now.change)) }
     {
         match &step.change {
-            Change::Learn { count, .. } => *count,
+            LogChange::Learn { count, .. } => *count,
             _ => self.learned.count(),
         }
     }
 
     /// The command learned at a position once the step is kept.
-    pub fn command_after<'a>(&'a self, step: &'a Step<C>, position: u32) -> Option<&'a C>
+    pub fn command_after<'a>(&'a self, step: &'a LogEffect<C>, position: u32) -> Option<&'a C>
         ensures { option_copied result ≡ learned_after self.now step.now.change position }
     {
         match &step.change {
-            Change::Learn {
+            LogChange::Learn {
                 position: learned,
                 command,
                 ..
@@ -464,7 +469,7 @@ impl<C: Command> Log<C> {
     }
 
     /// Makes a step's change, which takes no memory.
-    pub fn keep(&mut self, step: Step<C>)
+    pub fn keep(&mut self, step: LogEffect<C>)
         requires { IsLatest self.old step }
         ensures learned { learned_of self.new ≡ learned_after self.old step.change }
         ensures received { received_of self.new ≡ received_after self.old step.change }
@@ -472,19 +477,19 @@ impl<C: Command> Log<C> {
             → StandsFor self.new (facts ++ step.facts.items) }
         ensures config { config_of self.new ≡ config_of self.old }
     {
-        let Step {
+        let LogEffect {
             facts: _facts,
             messages: _messages,
             change,
         } = step;
         match change {
-            Change::Nothing => {}
-            Change::Receive {
+            LogChange::Nothing => {}
+            LogChange::Receive {
                 position,
                 from,
                 vote,
             } => self.received.put(position, from, vote),
-            Change::Learn {
+            LogChange::Learn {
                 position,
                 command,
                 count,
@@ -498,7 +503,7 @@ impl<C: Command> Log<C> {
 
 /// How many positions an Ask for this one asks for.
 fn block(position: u32) -> u32
-    ensures { result ≡ block position }
+    ensures { result ≡ ask_length position }
 {
     if position % 32 == 0 {
         (LAST_POSITION + 1).saturating_sub(position).min(32)

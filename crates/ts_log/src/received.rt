@@ -4,7 +4,7 @@ ghost use Rattle.std.specs.Prelude.{◌≡◌, ℕ, OnOk, None, Some, is_some, t
 ghost use Rattle.std.specs.Option.{option_copied};
 ghost use Rattle.std.specs.Ordering.{nat_cmp};
 ghost use Rattle.std.specs.BTreeMap.{get};
-ghost use Rattle.ts_synod.specs.Lists.{put};
+ghost use Rattle.ts_synod.specs.Lists.{update_at};
 ghost use Rattle.ts_log.specs.Maps.{HasPlaceIn, received_in, vote_in};
 
 use std::alloc::{AllocError, Global};
@@ -13,17 +13,17 @@ use ts_synod::{Vote, put_at, replace_at};
 
 /// The votes of the greatest ballot by position and sender.
 #[derive(Drop)]
-pub struct Received<C> {
+pub struct ReceivedVotes<C> {
     alloc: Global,
     votes: BTreeMap<u32, BTreeMap<u8, Option<Vote<C>>>>,
 }
 
-impl<C: Drop> Received<C> {
+impl<C: Drop> ReceivedVotes<C> {
     /// No vote is received.
-    pub fn new(alloc: Global) -> Received<C>
+    pub fn new(alloc: Global) -> ReceivedVotes<C>
         ensures { (p a : ℕ) → received_in result.votes p a ≡ None }
     {
-        Received {
+        ReceivedVotes {
             alloc,
             votes: BTreeMap::new(alloc),
         }
@@ -58,8 +58,8 @@ impl<C: Drop> Received<C> {
     pub fn put(&mut self, position: u32, node: u8, vote: Vote<C>)
         requires { HasPlaceIn (get nat_cmp self.old.votes position) node }
         ensures { received_in self.new.votes
-            ≡ put (received_in self.old.votes) position
-            (put (received_in self.old.votes position) node (Some vote)) }
+            ≡ update_at (received_in self.old.votes) position
+            (update_at (received_in self.old.votes position) node (Some vote)) }
     {
         let mut votes = replace_at(&mut self.votes, position, BTreeMap::new(self.alloc));
         put_at(&mut votes, node, Some(vote));
@@ -69,7 +69,7 @@ impl<C: Drop> Received<C> {
     /// Forgets the votes at a position.
     pub fn forget(&mut self, position: u32)
         ensures { received_in self.new.votes
-            ≡ put (received_in self.old.votes) position (λ a. None) }
+            ≡ update_at (received_in self.old.votes) position (λ a. None) }
     {
         let _votes = self.votes.remove(&position);
     }

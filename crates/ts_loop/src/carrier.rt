@@ -6,7 +6,7 @@ ghost use Rattle.ts_links.specs.Calls.{HasReached};
 use crate::asking::ask;
 use crate::door::PIECE;
 use crate::frames::{is_settled, messages_in, octets_of, outcome_of, prefix_of};
-use crate::line::{Change, Line};
+use crate::line::{Line, LineChange};
 use crate::rounds::PEERS;
 use crate::senders::{Sender, Senders};
 use crate::telling::{MOST, log_frame, tell_rows};
@@ -210,7 +210,7 @@ impl Carrier {
             if from == to && matches!(message.body, Body::Busy { .. }) {
                 self.hurry(now);
             }
-            let Some(frame) = octets_of(self.alloc, &Frame::Peer(message)) else {
+            let Some(frame) = octets_of(self.alloc, Frame::Peer(message)) else {
                 continue;
             };
             if from == to {
@@ -465,15 +465,15 @@ impl Carrier {
 }
 
 /// Tells standard error what became of a peer.
-fn tell(rt: &impl Eprint, node: u8, change: Change) {
+fn tell(rt: &impl Eprint, node: u8, change: LineChange) {
     let _told = match change {
-        Change::None => Ok(()),
-        Change::Reached => eprintln!(rt; "trustd: peer {node} is reached"),
-        Change::Lost => eprintln!(rt; "trustd: peer {node} is lost"),
-        Change::Refused => eprintln!(rt;
+        LineChange::None => Ok(()),
+        LineChange::Reached => eprintln!(rt; "trustd: peer {node} is reached"),
+        LineChange::Lost => eprintln!(rt; "trustd: peer {node} is lost"),
+        LineChange::Refused => eprintln!(rt;
             "trustd: peer {node} ended the connection before it answered: does it know this key?"
         ),
-        Change::Stranger(
+        LineChange::Stranger(
             Identity {
                 node: other,
                 nodes,

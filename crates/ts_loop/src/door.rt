@@ -3,7 +3,7 @@
 ghost use Rattle.std.specs.Prelude.{◌≤◌, IfSome, length};
 ghost use Rattle.ts_links.specs.Calls.{IsQuiet};
 
-use crate::lock::{Handed, Lock};
+use crate::lock::{HandOver, Lock};
 use mio::net::TcpStream;
 use std::io::{ErrorKind, Read, Write};
 use std::net::{Shutdown, SocketAddr};
@@ -113,7 +113,7 @@ fn take_in(
     ensures { IsQuiet table.old table.new }
 {
     match &mut door.lock {
-        Some(lock) => lock.push(piece) && lock.hand_on(table, keys, slot, now) != Handed::Failed,
+        Some(lock) => lock.push(piece) && lock.hand_on(table, keys, slot, now) != HandOver::Failed,
         None => piece.is_empty() || arrive(table, slot, piece, now),
     }
 }
@@ -242,12 +242,12 @@ fn hand_on_rest(
     keys: &[Key],
     slot: usize,
     now: u64,
-) -> Handed
+) -> HandOver
     ensures { IsQuiet table.old table.new }
 {
     match &mut door.lock {
         Some(lock) => lock.hand_on(table, keys, slot, now),
-        None => Handed::Nothing,
+        None => HandOver::Nothing,
     }
 }
 
@@ -265,13 +265,13 @@ pub(crate) fn finish<S: Service>(
     ensures { IsQuiet table.old table.new }
 {
     let handed = hand_on_rest(table, door, keys, slot, now);
-    if handed == Handed::Failed {
+    if handed == HandOver::Failed {
         return None;
     }
     if !write_once(table, service, door, slot, now) {
         return None;
     }
-    Some(handed == Handed::Some)
+    Some(handed == HandOver::Some)
 }
 
 /// Writes what a lock has ready, before a connection is closed that failed: why no key was taken.

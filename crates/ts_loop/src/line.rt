@@ -34,7 +34,7 @@ const CALLS: u32 = 16;
 
 /// What became of a line in a round.
 #[derive(Clone, Copy, Debug, PartialEq, Eq)]
-pub(crate) enum Change {
+pub(crate) enum LineChange {
     /// Nothing that anybody has to be told.
     None,
     /// The peer was reached.
@@ -136,7 +136,7 @@ impl Line {
     }
 
     /// The connection is lost, or was not made.
-    fn lose(&mut self, now: u64, chance: u64) -> Change {
+    fn lose(&mut self, now: u64, chance: u64) -> LineChange {
         let was_up = matches!(self.dial.phase, Phase::Up { .. });
         self.stream = None;
         self.seal = None;
@@ -146,15 +146,15 @@ impl Line {
         self.dial.lose(now, chance);
         if self.is_known {
             self.is_known = false;
-            return Change::Lost;
+            return LineChange::Lost;
         }
         if !was_up || self.is_told {
-            return Change::None;
+            return LineChange::None;
         }
         self.is_told = true;
         match self.stranger {
-            Some(identity) => Change::Stranger(identity),
-            None => Change::Refused,
+            Some(identity) => LineChange::Stranger(identity),
+            None => LineChange::Refused,
         }
     }
 
@@ -166,7 +166,7 @@ impl Line {
         token: Token,
         now: u64,
         chance: u64,
-    ) -> Change {
+    ) -> LineChange {
         self.dial.begin(now);
         self.readable = false;
         self.writable = false;
@@ -178,7 +178,7 @@ impl Line {
             return self.lose(now, chance);
         }
         self.stream = Some(stream);
-        Change::None
+        LineChange::None
     }
 
     /// Whether the connection that is being made is there.
@@ -198,10 +198,10 @@ impl Line {
         since: u64,
         now: u64,
         chance: u64,
-    ) -> Change {
+    ) -> LineChange {
         if !self.writable {
             if now.saturating_sub(since) < SILENCE {
-                return Change::None;
+                return LineChange::None;
             }
             return self.lose(now, chance);
         }
@@ -221,7 +221,7 @@ impl Line {
         self.heard = now;
         self.asked = now;
         self.stranger = None;
-        Change::None
+        LineChange::None
     }
 
     /// The peer says which node it is: whether it is the one that is meant. It is asked then how
@@ -263,13 +263,14 @@ impl Line {
 
     /// Takes an answer. `false` where it is none that a node gives to a message, or the peer is
     /// another node than was meant.
-    fn take_answer(&mut self, answer: Frame, now: u64) -> bool {
+    fn take_answer(&mut self, answer: &Frame, now: u64) -> bool {
         match answer {
             Frame::Identity { node, nodes, group } => {
+                let (node, nodes, group) = (*node, *nodes, *group);
                 self.meet(Identity { node, nodes, group }, now)
             }
             Frame::Prefix { prefix } if self.is_met => {
-                self.prefix = prefix;
+                self.prefix = *prefix;
                 self.is_known = true;
                 true
             }
@@ -286,7 +287,9 @@ impl Line {
         for _answer in 0..PIECE {
             match self.answers.take() {
                 Ok(Some(answer)) => {
-                    if !self.take_answer(answer, now) {
+                    let is_right = self.take_answer(&answer, now);
+                    drop(answer);
+                    if !is_right {
                         return false;
                     }
                 }
@@ -410,7 +413,7 @@ impl Line {
         buffer: &mut [u8; PIECE],
         now: u64,
         chance: u64,
-    ) -> Change
+    ) -> LineChange
         requires { S.is_kept service.now }
     {
         if self.is_met && now.saturating_sub(self.asked) >= BEAT && self.heard >= self.asked {
@@ -423,9 +426,9 @@ impl Line {
         }
         if self.is_known && !was_known {
             self.is_told = false;
-            return Change::Reached;
+            return LineChange::Reached;
         }
-        Change::None
+        LineChange::None
     }
 
     /// One round of the line: it is dialed, looked after, read and written. `chance` is any number.
@@ -439,14 +442,14 @@ impl Line {
         buffer: &mut [u8; PIECE],
         now: u64,
         chance: u64,
-    ) -> Change
+    ) -> LineChange
         requires { S.is_kept service.now }
     {
         match self.dial.phase {
             Phase::Down { .. } if self.dial.is_due(now) => {
                 self.dial(net, registry, token, now, chance)
             }
-            Phase::Down { .. } => Change::None,
+            Phase::Down { .. } => LineChange::None,
             Phase::Dialing { since } => self.finish(net, own, since, now, chance),
             Phase::Up { .. } => self.exchange(service, buffer, now, chance),
         }

@@ -29,7 +29,7 @@ pub(crate) struct Lock {
 
 /// What became of the octets that a lock holds.
 #[derive(Clone, Copy, Debug, PartialEq, Eq)]
-pub(crate) enum Handed {
+pub(crate) enum HandOver {
     /// None was let through, or there was no room.
     Nothing,
     /// Some were handed on.
@@ -121,10 +121,10 @@ impl Lock {
         keys: &[Key],
         slot: usize,
         now: u64,
-    ) -> Handed
+    ) -> HandOver
         ensures { IsQuiet table.old table.new }
     {
-        let mut handed = Handed::Nothing;
+        let mut handed = HandOver::Nothing;
         for _step in 0..self.entrance.held_count().saturating_add(1) {
             if !table.reads(slot) {
                 return handed;
@@ -132,14 +132,14 @@ impl Lock {
             match self.entrance.take(keys) {
                 Ok(Some(octets)) => {
                     if !arrive(table, slot, &octets, now) {
-                        return Handed::Failed;
+                        return HandOver::Failed;
                     }
-                    handed = Handed::Some;
+                    handed = HandOver::Some;
                 }
                 Ok(None) => return handed,
                 Err(fault) => {
                     self.turn_away(fault);
-                    return Handed::Failed;
+                    return HandOver::Failed;
                 }
             }
         }

@@ -1,5 +1,5 @@
-//! What one round does at one slot: first it reads and takes requests, and once what came of them is
-//! kept on disk it writes.
+//! What one round does at one slot: first it reads and takes requests, and once what came of them
+//! is kept on disk it writes.
 
 ghost use Rattle.ts_links.specs.Calls.{HasReached, IsQuiet};
 
@@ -26,7 +26,7 @@ pub(crate) struct Round<'a, R> {
 
 /// What became of a connection in a round.
 #[derive(Clone, Copy, Debug, PartialEq, Eq)]
-pub(crate) enum Pumped {
+pub(crate) enum PumpEnd {
     /// It waits for its socket.
     Waits,
     /// It could do more.
@@ -40,35 +40,35 @@ pub(crate) enum Pumped {
 }
 
 /// What is left to do on an open connection of which so many requests were taken.
-fn left_open(table: &Connections, door: &Door, slot: usize, taken: u32) -> Pumped {
+fn left_open(table: &Connections, door: &Door, slot: usize, taken: u32) -> PumpEnd {
     let waits = door.waits(table, slot);
     let reads = door.readable && !door.ended && table.reads(slot);
     if taken == TURNS || reads || (waits && door.writable) {
-        return Pumped::More;
+        return PumpEnd::More;
     }
     if door.ended && !waits {
-        return Pumped::Ended;
+        return PumpEnd::Ended;
     }
-    Pumped::Waits
+    PumpEnd::Waits
 }
 
 /// What is left to do on a connection that was refused.
-fn left_refused(door: &Door) -> Pumped {
+fn left_refused(door: &Door) -> PumpEnd {
     if door.shut && door.ended {
-        return Pumped::Ended;
+        return PumpEnd::Ended;
     }
     if (door.readable && !door.ended) || (!door.shut && door.writable) {
-        return Pumped::More;
+        return PumpEnd::More;
     }
-    Pumped::Waits
+    PumpEnd::Waits
 }
 
 /// What is left to do on a connection.
-fn what_is_left(table: &Connections, door: &Door, slot: usize, taken: u32) -> Pumped {
+fn what_is_left(table: &Connections, door: &Door, slot: usize, taken: u32) -> PumpEnd {
     match table.stage(slot) {
         Stage::Open => left_open(table, door, slot, taken),
         Stage::Refused => left_refused(door),
-        Stage::Closed => Pumped::Failed,
+        Stage::Closed => PumpEnd::Failed,
     }
 }
 
@@ -85,7 +85,7 @@ fn take_next<S: Service, R: Clock>(
     ensures reached { HasReached S.turn S.keeps service.old table.old service.new table.new }
     ensures ready { S.is_ready service.new }
 {
-    let asked = kind_at(table.held(slot), 0);
+    let asked = kind_at(table.octets_held(slot), 0);
     let place = table.waiting(slot).len();
     let begun = moment(round.rt);
     let (taken, good) = take_some(table, slot, service, 1, round.now);
@@ -111,10 +111,10 @@ fn take_one<S: Service, R: Clock>(
     ensures reached { HasReached S.turn S.keeps service.old table.old service.new table.new }
     ensures ready { S.is_ready service.new }
 {
-    if carrier.holds_back(table.held(slot), round.now) {
+    if carrier.holds_back(table.octets_held(slot), round.now) {
         return (0, true);
     }
-    carrier.see(table.held(slot), slot, from, round.now);
+    carrier.see(table.octets_held(slot), slot, from, round.now);
     take_next(round, table, service, slot, watch)
 }
 
@@ -168,7 +168,7 @@ pub(crate) fn begin<S: Service, R: Clock>(
     door.taken = taken;
     door.failed = !good;
     // The gate may open before the round ends, and then the connection has to be looked at again.
-    door.held = carrier.holds_back(table.held(slot), round.now);
+    door.held = carrier.holds_back(table.octets_held(slot), round.now);
 }
 
 /// One write of a connection, and what is left to do on it.
@@ -178,23 +178,23 @@ pub(crate) fn end<S: Service, R>(
     service: &S,
     door: &mut Door,
     slot: usize,
-) -> Pumped
+) -> PumpEnd
     requires { S.is_kept service.now }
     ensures { IsQuiet table.old table.new }
 {
     if door.failed {
         write_last(service, door);
-        return Pumped::Failed;
+        return PumpEnd::Failed;
     }
     let Some(more) = finish(table, service, door, round.keys, slot, round.now) else {
-        return Pumped::Failed;
+        return PumpEnd::Failed;
     };
     shut_if_done(table, door, slot);
     if door.held {
-        return Pumped::Held;
+        return PumpEnd::Held;
     }
     if more {
-        return Pumped::More;
+        return PumpEnd::More;
     }
     what_is_left(table, door, slot, door.taken)
 }

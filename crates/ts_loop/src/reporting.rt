@@ -1,7 +1,7 @@
 //! How the server does, in lines of text, for whoever asks for a report.
 
 use crate::line::Line;
-use crate::showing::Shown;
+use crate::showing::ShownMetrics;
 use std::alloc::{AllocError, Global};
 
 /// How many milliseconds a report is given out for.
@@ -39,7 +39,7 @@ fn add_peers(text: &mut String, alloc: Global, lines: &[Line], now: u64) -> Resu
 pub(crate) fn report_of(
     alloc: Global,
     about: &str,
-    shown: &Shown<'_>,
+    shown: &ShownMetrics<'_>,
     now: u64,
 ) -> Result<String, AllocError> {
     let mut text = String::from_str(alloc, about)?;

@@ -1,12 +1,12 @@
-//! What one round does at all slots: all are read and their requests are taken, and once what came of
-//! them is kept on disk, by one append, all are written.
+//! What one round does at all slots: all are read and their requests are taken, and once what came
+//! of them is kept on disk, by one append, all are written.
 
 ghost use Rattle.ts_links.specs.Calls.{HasReached, IsQuiet};
 
 use crate::carrier::Carrier;
 use crate::counts::{Counts, Why};
 use crate::door::{Door, PIECE};
-use crate::pumping::{Pumped, Round, begin, end};
+use crate::pumping::{PumpEnd, Round, begin, end};
 use crate::watch::Watch;
 use crate::web::{WEB, Web};
 use mio::{Events, Token};
@@ -73,24 +73,24 @@ fn settle(
     table: &mut Connections,
     place: &mut Option<Door>,
     slot: usize,
-    pumped: Pumped,
+    pumped: PumpEnd,
     counts: &mut Counts,
 ) -> bool
     ensures { IsQuiet table.old table.new }
 {
-    if pumped == Pumped::More {
+    if pumped == PumpEnd::More {
         return true;
     }
-    if pumped == Pumped::Held {
+    if pumped == PumpEnd::Held {
         return false;
     }
-    if pumped == Pumped::Waits {
+    if pumped == PumpEnd::Waits {
         if let Some(door) = place {
             door.hot = false;
         }
         return false;
     }
-    let why = if pumped == Pumped::Ended {
+    let why = if pumped == PumpEnd::Ended {
         Why::Ended
     } else {
         Why::Failed
@@ -221,7 +221,8 @@ fn sweep_slot(
 )
     ensures { IsQuiet table.old table.new }
 {
-    let is_late = table.is_late(slot, deadlines, now) && !carrier.holds_back(table.held(slot), now);
+    let is_late = table.is_late(slot, deadlines, now)
+        && !carrier.holds_back(table.octets_held(slot), now);
     if !is_late && !is_over(place, deadlines, now) {
         return;
     }

@@ -1,13 +1,13 @@
 //! The loop.
 
 ghost use Rattle.std.specs.Prelude.{◌≡◌};
-ghost use Rattle.ts_question.specs.Question.{Asked};
+ghost use Rattle.ts_question.specs.Question.{StoreQuestion};
 ghost use Rattle.ts_node.specs.Machine.{store_of};
 ghost use Rattle.ts_node.specs.Ahead.{IsAhead};
 ghost use Rattle.ts_store.specs.Octets.{octets_of};
 ghost use Rattle.ts_serve.specs.Turn.{HasKept, StagedTurn};
 ghost use Rattle.ts_links.specs.Calls.{HasReached, IsQuiet};
-ghost use Rattle.ts_links.specs.Turns.{Served};
+ghost use Rattle.ts_links.specs.Turns.{IsServed};
 
 use crate::accepting::{Accepts, Entry, accept_some};
 use crate::access::Access;
@@ -20,7 +20,7 @@ use crate::limits::Limits;
 use crate::pumping::Round;
 use crate::reporting::{FRESH, report_of};
 use crate::rounds::{LISTENER, begin_all, end_all, mark, sweep};
-use crate::showing::{Shown, show_all};
+use crate::showing::{ShownMetrics, show_all};
 use crate::watch::Watch;
 use crate::web::Web;
 use mio::net::TcpListener;
@@ -256,7 +256,7 @@ impl Edge {
             web.board.now = seconds;
         }
         if web.is_stale(now) {
-            let shown = Shown {
+            let shown = ShownMetrics {
                 frames: &self.counts,
                 http: web.counts,
                 carrier: &self.carrier,
@@ -283,7 +283,7 @@ impl Edge {
             Some(about) => about.as_str(),
             None => "",
         };
-        let shown = Shown {
+        let shown = ShownMetrics {
             frames: &self.counts,
             http,
             carrier: &self.carrier,
@@ -357,8 +357,8 @@ impl Edge {
         self.take_web(rt, table, service, access, buffer, now);
     }
 
-    /// All that waits is written, since what came of it is kept: on the connections, on the lines to
-    /// the peers, and on the connections of HTTP.
+    /// All that waits is written, since what came of it is kept: on the connections, on the lines
+    /// to the peers, and on the connections of HTTP.
     fn write<S: Service, R: Net + Eprint + RandomSource>(
         &mut self,
         rt: &R,
@@ -405,8 +405,8 @@ impl Edge {
         self.counts.over().saturating_add(web)
     }
 
-    /// One round: what is there is taken, what came of it is kept, by one append, and then what waits
-    /// is written.
+    /// One round: what is there is taken, what came of it is kept, by one append, and then what
+    /// waits is written.
     ///
     /// # Errors
     ///
@@ -480,10 +480,10 @@ impl Edge {
 /// Serves an address to many connections at once, by one thread: each request is taken in its turn,
 /// and a connection that is slow, silent or reads nothing keeps no other from being answered. What
 /// came of all requests that were there at once is kept on disk by one append, and then they are
-/// answered. A connection's own fault ends it alone. Where the group says so messages are carried: the node's
-/// to itself at once, those to peers on a connection to each, which is made again where it breaks.
-/// While a command is under way no other is taken from a client. Where keys are wanted, what comes
-/// is handed on as `ts_access` lets it through.
+/// answered. A connection's own fault ends it alone. Where the group says so messages are carried:
+/// the node's to itself at once, those to peers on a connection to each, which is made again where
+/// it breaks. While a command is under way no other is taken from a client. Where keys are wanted,
+/// what comes is handed on as `ts_access` lets it through.
 ///
 /// # Errors
 ///
@@ -507,8 +507,9 @@ where
     requires { IsAhead D.state octets_of M.commands server.old.node server.old.staged }
     // Whatever comes, in whatever pieces and whatever order: only moves on the connections were
     // made, and the server has answered the requests that these take, one after another.
-    ensures served { Served (StagedTurn D.state
-        (store_of Asked M.client_id M.outcome) M.basis M.is_answer) (HasKept D.state) server.old
+    ensures served { IsServed (StagedTurn D.state
+        (store_of StoreQuestion M.client_id M.outcome) M.basis M.is_answer) (HasKept D.state)
+        server.old
         server.new }
     ensures ahead { IsAhead D.state octets_of M.commands server.new.node server.new.staged }
 {
@@ -517,6 +518,12 @@ where
     let mut table = Connections::new(alloc, slots.saturating_add(1))?;
     let own = server.identity();
     let mut edge = Edge::new(rt, alloc, address, slots, own, group, access)?;
-    edge.serve(rt, &mut table, server, limits, access)?;
-    Ok(edge.counts)
+    let served = edge.serve(rt, &mut table, server, limits, access);
+    let counts = edge.counts;
+    drop(edge);
+    drop(table);
+    match served {
+        Ok(()) => Ok(counts),
+        Err(fault) => Err(fault),
+    }
 }

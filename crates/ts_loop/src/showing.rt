@@ -12,7 +12,7 @@ use ts_site::{Board, Label, Metric, PeerLine};
 
 /// What is shown.
 #[derive(Clone, Copy)]
-pub(crate) struct Shown<'a> {
+pub(crate) struct ShownMetrics<'a> {
     pub frames: &'a Counts,
     pub http: Counts,
     pub carrier: &'a Carrier,
@@ -187,7 +187,7 @@ pub(crate) fn show_all<R: Files>(
     rt: &R,
     alloc: Global,
     board: &mut Board,
-    shown: &Shown<'_>,
+    shown: &ShownMetrics<'_>,
 ) -> Result<(), AllocError> {
     board.metrics = Vec::new(alloc);
     show_open(board, shown.frames, &shown.http)?;

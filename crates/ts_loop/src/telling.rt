@@ -1,9 +1,9 @@
 //! Standard error is told of commands that were chosen.
 
-use crate::frames::{first_of, octets_of};
+use crate::frames::{answer_in, octets_of};
 use crate::senders::{Sender, Senders};
 use std::alloc::{AllocError, Global};
-use ts_question::{CommandRow, Question, Reply, Terms};
+use ts_question::{Answer, CommandRow, Question, Reply, Terms};
 use ts_render::{row_fields, write_row};
 use ts_show::Line;
 use ts_wire::Frame;
@@ -14,7 +14,7 @@ pub(crate) const MOST: u32 = 64;
 /// The frame that asks the node for the commands behind a position, of the first k.
 pub(crate) fn log_frame(alloc: Global, from: u32, k: u32) -> Option<Vec<u8>> {
     let question = Question::log(Terms::plain(alloc, Some(k)), from).ok()?;
-    octets_of(alloc, &Frame::Question { question })
+    octets_of(alloc, Frame::Question { question })
 }
 
 /// Adds from where a command came, if a client of this node sent it lately.
@@ -58,6 +58,18 @@ fn tell_row(
     Ok(())
 }
 
+/// Tells of the commands behind a position, by the page that the node answered.
+fn tell_page(rt: &impl Eprint, alloc: Global, from: u32, answer: &Answer, senders: &Senders) {
+    let Reply::Page { rows, .. } = answer.reply() else {
+        return;
+    };
+    let mut place = from;
+    for row in rows.as_slice() {
+        place = place.saturating_add(1);
+        let _told = tell_row(rt, alloc, place, row, senders);
+    }
+}
+
 /// Tells of the commands behind a position, by the node's answer.
 pub(crate) fn tell_rows(
     rt: &impl Eprint,
@@ -66,15 +78,8 @@ pub(crate) fn tell_rows(
     answer: &[u8],
     senders: &Senders,
 ) {
-    let Some(Frame::Answer { answer }) = first_of(alloc, answer) else {
-        return;
-    };
-    let Reply::Page { rows, .. } = answer.reply() else {
-        return;
-    };
-    let mut place = from;
-    for row in rows.as_slice() {
-        place = place.saturating_add(1);
-        let _told = tell_row(rt, alloc, place, row, senders);
+    if let Some(answer) = answer_in(alloc, answer) {
+        tell_page(rt, alloc, from, &answer, senders);
+        drop(answer);
     }
 }

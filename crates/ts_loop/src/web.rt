@@ -12,7 +12,7 @@ use crate::fault::LoopFault;
 use crate::limits::Limits;
 use crate::pumping::Round;
 use crate::watch::Watch;
-use crate::web_door::{Left, WebDoor, begin_web, end_web};
+use crate::web_door::{RoundEnd, WebDoor, begin_web, end_web};
 use mio::event::Event;
 use mio::net::{TcpListener, TcpStream};
 use mio::{Interest, Registry, Token};
@@ -235,21 +235,21 @@ impl Web {
     }
 
     /// What is known of a slot after a round: whether it could do more.
-    fn settle(&mut self, slot: usize, left: Left) -> bool {
+    fn settle(&mut self, slot: usize, left: RoundEnd) -> bool {
         match left {
-            Left::More => true,
-            Left::Held => false,
-            Left::Waits => {
+            RoundEnd::More => true,
+            RoundEnd::Held => false,
+            RoundEnd::Waits => {
                 if let Some(Some(door)) = self.doors.get_mut(slot) {
                     door.hot = false;
                 }
                 false
             }
-            Left::Ended => {
+            RoundEnd::Ended => {
                 self.close(slot, Why::Ended);
                 false
             }
-            Left::Failed => {
+            RoundEnd::Failed => {
                 self.close(slot, Why::Failed);
                 false
             }

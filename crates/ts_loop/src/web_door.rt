@@ -44,7 +44,7 @@ pub(crate) struct WebDoor {
 
 /// What became of a connection in a round.
 #[derive(Clone, Copy, Debug, PartialEq, Eq)]
-pub(crate) enum Left {
+pub(crate) enum RoundEnd {
     /// It waits for its socket.
     Waits,
     /// It could do more.
@@ -142,25 +142,25 @@ impl WebDoor {
     }
 
     /// What is left to do after the turns of this round.
-    fn left(&self) -> Left {
+    fn left(&self) -> RoundEnd {
         let waits = !self.face.octets().is_empty();
         let reads = self.readable && !self.ended && self.face.reads();
         if self.face.goes_on() || self.turns == TURNS || reads || (waits && self.writable) {
-            return Left::More;
+            return RoundEnd::More;
         }
         if self.face.asks().is_some() {
-            return Left::Held;
+            return RoundEnd::Held;
         }
         if self.ended && !waits {
-            return Left::Ended;
+            return RoundEnd::Ended;
         }
-        Left::Waits
+        RoundEnd::Waits
     }
 }
 
 /// What became of a turn of a connection.
 #[derive(Clone, Copy, Debug, PartialEq, Eq)]
-enum Turned {
+enum TurnEnd {
     /// The node was asked.
     Asked,
     /// There is nothing to ask it, or it can't be asked now.
@@ -198,24 +198,26 @@ fn turn<S: Service, R: Clock>(
     alloc: Global,
     face: &mut Face,
     board: &mut Board,
-) -> Turned
+) -> TurnEnd
     requires { S.is_ready service.old }
     ensures reached { HasReached S.turn S.keeps service.old table.old service.new table.new }
     ensures ready { S.is_ready service.new }
 {
     let Some(request) = face.asks() else {
-        return Turned::Nothing;
+        return TurnEnd::Nothing;
     };
     if carrier.holds_back(request, round.now) {
-        return Turned::Nothing;
+        return TurnEnd::Nothing;
     }
     carrier.see_http(request, round.now);
     let Some(frame) = ask_node(round, table, service, watch, alloc, request) else {
-        return Turned::Failed;
+        return TurnEnd::Failed;
     };
-    match face.give(&frame, board, round.now) {
-        Ok(()) => Turned::Asked,
-        Err(_) => Turned::Failed,
+    let given = face.give(&frame, board, round.now);
+    drop(frame);
+    match given {
+        Ok(()) => TurnEnd::Asked,
+        Err(_) => TurnEnd::Failed,
     }
 }
 
@@ -241,9 +243,9 @@ fn take_turns<S: Service, R: Clock>(
             return None;
         }
         match turn(round, table, service, carrier, watch, alloc, face, board) {
-            Turned::Asked => {}
-            Turned::Nothing => return Some(turns),
-            Turned::Failed => return None,
+            TurnEnd::Asked => {}
+            TurnEnd::Nothing => return Some(turns),
+            TurnEnd::Failed => return None,
         }
     }
     Some(TURNS)
@@ -282,11 +284,11 @@ pub(crate) fn begin_web<S: Service, R: Clock>(
 }
 
 /// One write of a connection, and what is left to do on it.
-pub(crate) fn end_web<S: Service>(service: &S, door: &mut WebDoor, now: u64) -> Left
+pub(crate) fn end_web<S: Service>(service: &S, door: &mut WebDoor, now: u64) -> RoundEnd
     requires { S.is_kept service.now }
 {
     if door.failed || !door.write(service, now) {
-        return Left::Failed;
+        return RoundEnd::Failed;
     }
     door.shut_if_done();
     door.left()

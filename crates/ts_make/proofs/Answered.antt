@@ -28,7 +28,7 @@ use Rattle.ts_make.specs.declared.fault.MakeFault.TheVariants.{Memory, TooLong, 
 use Rattle.ts_make.specs.Description.{IsDescribed, IsSignedBy, Says}
 use Rattle.ts_make.specs.Sayable.{IsSayable, IfWritten}
 use Rattle.ts_make.specs.Times.{IsTimeOf}
-use Rattle.ts_make.specs.Made.{tbs_octets, made}
+use Rattle.ts_make.specs.Made.{tbs_octets, made_certificate}
 use Rattle.ts_make.specs.Making.{AnswersMade, AreAllowed, IsRefusal}
 use Rattle.ts_make.proofs.OneTime.{in_years_or_not}
 use Rattle.ts_make.proofs.SerialNumbers.{serial-is}
@@ -55,16 +55,16 @@ pub record IsRead (b a : List ℕ) (text : CertText) : Type 0 where
   pub not_after : Says after text.to
   pub late : OptionalFields
   pub has : Has (tbs_said before after text) late
-  pub read : certificate_of (made b a text) ≡ unless_broken (extensions_fault V3 late) (said b a before after text)
+  pub read : certificate_of (made_certificate b a text) ≡ unless_broken (extensions_fault V3 late) (said b a before after text)
 
-pub is-read : (b a : List ℕ) (text : CertText) → IsSayable text → IsTimeOf b text.from → IsTimeOf a text.to → length (made b a text) ≤ 65536
+pub is-read : (b a : List ℕ) (text : CertText) → IsSayable text → IsTimeOf b text.from → IsTimeOf a text.to → length (made_certificate b a text) ≤ 65536
     → IsInYears 0 9999 text.from → IsInYears 0 9999 text.to → IsRead b a text
 is-read b a text sayable from to le from_in to_in =
     let parts = parts-short b a text (omega arith) in
     let fields = fields-short b a text parts.tbs in
     let before = time-said b text.from from from_in fields.before in
     let after = time-said a text.to to to_in fields.after in
-    let whole = signed-read (made b a text) (said b a before.time after.time text) le (signed-is b a before.time after.time text sayable before.is after.is (omega arith)) refl in
+    let whole = signed-read (made_certificate b a text) (said b a before.time after.time text) le (signed-is b a before.time after.time text sayable before.is after.is (omega arith)) refl in
     record {
       before = before.time;
       after = after.time;
@@ -80,7 +80,9 @@ kept : {A : Type 0} (o : Option CertFault) (x : A) → is_ok (unless_broken o x)
 kept None x ok = refl
 kept (Some f) x ok = absurd cc
 
-pub is-ok : (b a : List ℕ) (text : CertText) (is : IsRead b a text) → is_ok (certificate_of (made b a text)) ≡ true → certificate_of (made b a text) ≡ Ok (said b a is.before is.after text)
+pub is-ok : (b a : List ℕ) (text : CertText) (is : IsRead b a text)
+    → is_ok (certificate_of (made_certificate b a text)) ≡ true
+    → certificate_of (made_certificate b a text) ≡ Ok (said b a is.before is.after text)
 is-ok b a text is ok = is.read ∙ kept (extensions_fault V3 is.late) (said b a is.before is.after text) (sym (ap is_ok is.read) ∙ ok)
 
 -- the list of a field
@@ -102,12 +104,12 @@ ok_not_err (Ok x) f e ok = cc
 ok_not_err (Err g) f e ok = cc
 
 -- what is read lies in the years
-pub years-of : (b a : List ℕ) (text : CertText) → IsSayable text → IsTimeOf b text.from → IsTimeOf a text.to → length (made b a text) ≤ 65536
-    → is_ok (certificate_of (made b a text)) ≡ true → IsInYears 0 9999 text.from × IsInYears 0 9999 text.to
+pub years-of : (b a : List ℕ) (text : CertText) → IsSayable text → IsTimeOf b text.from → IsTimeOf a text.to → length (made_certificate b a text) ≤ 65536
+    → is_ok (certificate_of (made_certificate b a text)) ≡ true → IsInYears 0 9999 text.from × IsInYears 0 9999 text.to
 years-of b a text sayable from to le ok =
     elim (in_years text) [
       | inl years ↦ years
-      | inr outside ↦ let refused = certificate-refused b a text sayable from to le outside in absurd (ok_not_err (certificate_of (made b a text)) _ refused.1 ok)
+      | inr outside ↦ let refused = certificate-refused b a text sayable from to le outside in absurd (ok_not_err (certificate_of (made_certificate b a text)) _ refused.1 ok)
     ]
 
 is-described : (b a : List ℕ) (text : CertText) → IsSayable text → (before after : Time) → Says before text.from → Says after text.to → IsDescribed text (said b a before after text)
@@ -137,7 +139,7 @@ is-signed b a text before after =
 -- ---- the clauses
 
 pub answers-described : (r : Result (Vec ℕ Global) MakeFault) (b a : List ℕ) (text : CertText) → IfWritten r (IsSayable text) → IsTimeOf b text.from → IsTimeOf a text.to
-    → AnswersMade r (made b a text) → IfOk r (λ v. (c : Certificate) × (certificate_of v.items ≡ Ok c) × IsDescribed text c)
+    → AnswersMade r (made_certificate b a text) → IfOk r (λ v. (c : Certificate) × (certificate_of v.items ≡ Ok c) × IsDescribed text c)
 answers-described (Ok v) b a text sayable from to h =
     let years = years-of b a text sayable from to h.1 h.2 in
     let is = is-read b a text sayable from to h.1 years.0 years.1 in
@@ -145,7 +147,7 @@ answers-described (Ok v) b a text sayable from to h =
 answers-described (Err e) b a text sayable from to h = tt
 
 pub answers-signed : (r : Result (Vec ℕ Global) MakeFault) (b a : List ℕ) (text : CertText) → IfWritten r (IsSayable text) → IsTimeOf b text.from → IsTimeOf a text.to
-    → AnswersMade r (made b a text) → IfOk r (λ v. (c : Certificate) × (certificate_of v.items ≡ Ok c) × IsSignedBy text.signer.now c)
+    → AnswersMade r (made_certificate b a text) → IfOk r (λ v. (c : Certificate) × (certificate_of v.items ≡ Ok c) × IsSignedBy text.signer.now c)
 answers-signed (Ok v) b a text sayable from to h =
     let years = years-of b a text sayable from to h.1 h.2 in
     let is = is-read b a text sayable from to h.1 years.0 years.1 in
@@ -153,7 +155,7 @@ answers-signed (Ok v) b a text sayable from to h =
 answers-signed (Err e) b a text sayable from to h = tt
 
 pub answers-years : (r : Result (Vec ℕ Global) MakeFault) (b a : List ℕ) (text : CertText) → IfWritten r (IsSayable text) → IsTimeOf b text.from → IsTimeOf a text.to
-    → AnswersMade r (made b a text) → OnOk r (IsInYears 0 9999 text.from × IsInYears 0 9999 text.to)
+    → AnswersMade r (made_certificate b a text) → OnOk r (IsInYears 0 9999 text.from × IsInYears 0 9999 text.to)
 answers-years (Ok v) b a text sayable from to h = years-of b a text sayable from to h.1 h.2
 answers-years (Err e) b a text sayable from to h = tt
 
@@ -161,15 +163,18 @@ one-fault : (r : Result Certificate CertFault) (f g : CertFault) → r ≡ Err f
 one-fault r f g e h = cc
 
 refusal : (b a : List ℕ) (text : CertText) (fault : CertFault) → IsSayable text → IsTimeOf b text.from → IsTimeOf a text.to
-    → length (made b a text) ≤ 65536 → certificate_of (made b a text) ≡ Err fault → IsRefusal text (Unreadable fault)
+    → length (made_certificate b a text) ≤ 65536 → certificate_of (made_certificate b a text) ≡ Err fault → IsRefusal text (Unreadable fault)
 refusal b a text fault sayable from to le e =
     elim (in_years text) [
       | inl years ↦
           let is = is-read b a text sayable from to le years.0 years.1 in
-          inr (λ allowed. ok_not_err (certificate_of (made b a text)) fault e (ap is_ok (is.read ∙ ap (λ (o : Option CertFault). unless_broken o (said b a is.before is.after text)) (no-fault b a text is allowed))))
+          inr (λ allowed. ok_not_err (certificate_of (made_certificate b a text)) fault e
+          (ap is_ok (is.read ∙ ap
+          (λ (o : Option CertFault). unless_broken o (said b a is.before is.after text))
+          (no-fault b a text is allowed))))
       | inr outside ↦
           let refused = certificate-refused b a text sayable from to le outside in
-          let same = one-fault (certificate_of (made b a text)) fault (breaks refused.0 (Der TimeForm)) e refused.1 in
+          let same = one-fault (certificate_of (made_certificate b a text)) fault (breaks refused.0 (Der TimeForm)) e refused.1 in
           inl (ap (λ (f : CertFault). f.kind) same, either outside)
     ]
   where
@@ -178,7 +183,7 @@ refusal b a text fault sayable from to le e =
     either (inr outside) = inr outside.1
 
 pub answers-refused : (r : Result (Vec ℕ Global) MakeFault) (b a : List ℕ) (text : CertText) → IfWritten r (IsSayable text) → IsTimeOf b text.from → IsTimeOf a text.to
-    → AnswersMade r (made b a text) → IfErr r (IsRefusal text)
+    → AnswersMade r (made_certificate b a text) → IfErr r (IsRefusal text)
 answers-refused (Ok v) b a text sayable from to h = tt
 answers-refused (Err Memory) b a text sayable from to h = tt
 answers-refused (Err TooLong) b a text sayable from to h = tt

@@ -15,11 +15,26 @@ flag-is numbers flags count k e h = ap (λ (f : List Bool). get_or f k false) e 
 
 -- the octet of eight of them
 pub octet-is : (numbers : List ℕ) (flags : List Bool) (count i : ℕ) → flags ≡ map (is_set numbers) (range_with_len 0 (8 * count)) → i < count
-    → weight (get_or flags (8 * i) false) 128 + weight (get_or flags (8 * i + 1) false) 64 + weight (get_or flags (8 * i + 2) false) 32 + weight (get_or flags (8 * i + 3) false) 16 + weight (get_or flags (8 * i + 4) false) 8 + weight (get_or flags (8 * i + 5) false) 4 + weight (get_or flags (8 * i + 6) false) 2 + weight (get_or flags (8 * i + 7) false) 1 ≡ octet_from numbers (8 * i)
+    → weight (get_or flags (8 * i) false) 128 + weight (get_or flags (8 * i + 1) false) 64 + weight
+    (get_or flags (8 * i + 2) false) 32 + weight (get_or flags (8 * i + 3) false) 16 + weight
+    (get_or flags (8 * i + 4) false) 8 + weight (get_or flags (8 * i + 5) false) 4 + weight
+    (get_or flags (8 * i + 6) false) 2 + weight (get_or flags (8 * i + 7) false) 1 ≡ octet_from
+    numbers (8 * i)
 unfolding octet_from
 octet-is numbers flags count i e h =
     let at : (k : ℕ) → k < 8 * count → get_or flags k false ≡ is_set numbers k = λ k lt. flag-is numbers flags (8 * count) k e lt in
-    rw (at (8 * i) (omega arith), at (8 * i + 1) (omega arith), at (8 * i + 2) (omega arith), at (8 * i + 3) (omega arith), at (8 * i + 4) (omega arith), at (8 * i + 5) (omega arith), at (8 * i + 6) (omega arith), at (8 * i + 7) (omega arith)) refl
+    rw (
+      at (8 * i) (omega arith),
+      at (8 * i + 1) (omega arith),
+      at (8 * i + 2) (omega arith),
+      at
+          (8 * i + 3) (omega arith),
+      at (8 * i + 4) (omega arith),
+      at (8 * i + 5) (omega arith),
+      at
+          (8 * i + 6) (omega arith),
+      at (8 * i + 7) (omega arith),
+    ) refl
 
 -- as many octets as a number asks for
 usage-length : (numbers : List ℕ) → length (usage_content numbers) ≡ last_set numbers / 8 + 2

@@ -90,7 +90,9 @@ no-entries : (date : Time) (es : List EntryText) → es ≡ [] → revoked_said 
 no-entries date [] e = refl
 no-entries date (x ∷ es) e = absurd cc
 
-pub is-described : (t n : List ℕ) (text : CrlText) → IsSayableCrl text → (issued next : Time) → Says issued text.this_update → Says next text.next_update → IsCrlDescribed text (crl_said t n issued next text)
+pub is-described : (t n : List ℕ) (text : CrlText) → IsSayableCrl text → (issued next : Time)
+    → Says issued text.this_update → Says next text.next_update
+    → IsCrlDescribed text (crl_said t n issued next text)
 is-described t n text sayable issued next from to =
     record {
       version = refl;

@@ -15,12 +15,12 @@ use Rattle.ts_shape.specs.Items.{AreItems}
 use Rattle.ts_ext.specs.Extension.{Extension, IsExtension, AreExtensions}
 use Rattle.ts_crl.specs.declared.version.ListVersion.TheVariants.{V2}
 use Rattle.ts_crl.specs.List.{RevokedCertificate, TbsCertList, CertificateList}
-use Rattle.ts_crl.specs.Encoding.{version_octets, IsRevokedCertificate, AreRevoked, IsTbsCertList, IsSigned}
+use Rattle.ts_crl.specs.Encoding.{crl_version_octets, IsRevokedCertificate, AreRevoked, IsTbsCertList, IsSignedCrl}
 use Rattle.ts_make.specs.declared.crl_description.EntryText.{EntryText}
 use Rattle.ts_make.specs.declared.crl_description.CrlText.{CrlText}
 use Rattle.ts_make.specs.Serial.{serial_content}
 use Rattle.ts_make.specs.Description.{rdns_in, stand_in}
-use Rattle.ts_make.specs.Extensions.{extension_octets, field_of, sequence}
+use Rattle.ts_make.specs.Extensions.{extension_octets, field_of, sequence_extension}
 use Rattle.ts_make.specs.Made.{bit_octets, name_octets}
 use Rattle.ts_make.specs.CrlExtensions.{reason_extension, number_extensions, base_extensions, scope_content, null_extension, crl_extensions, crl_field}
 use Rattle.ts_make.specs.CrlMade.{entry_content, entry_octets, revoked_octets, crl_content, crl_tbs, made_crl}
@@ -137,17 +137,19 @@ nulls-known : (oids : List OidRef) → AreKnown (map null_extension oids)
 nulls-known [] = tt
 nulls-known (oid ∷ oids) = (oid.form, nulls-known oids)
 
-scope-known : (content : List ℕ) → AreKnown (sequence 28 true content)
+scope-known : (content : List ℕ) → AreKnown (sequence_extension 28 true content)
 unfolding is_oid series_of subidentifier
 scope-known content = sequence-known 28 true content refl
 
 list-known : (text : CrlText) → AreKnown (crl_extensions text)
 unfolding crl_extensions
 list-known text =
-    let scope = sequence 28 true (scope_content text.uris.now text.reasons.now) in
+    let scope = sequence_extension 28 true (scope_content text.uris.now text.reasons.now) in
     let nulls = map null_extension text.critical.now in
     let others = known-append scope nulls (scope-known (scope_content text.uris.now text.reasons.now)) (nulls-known text.critical.now) in
-    known-append (number_extensions text.number) (base_extensions text.base ++ (scope ++ nulls)) (number-known text.number) (known-append (base_extensions text.base) (scope ++ nulls) (base-known text.base) others)
+    known-append (number_extensions text.number) (base_extensions text.base ++ (scope ++ nulls))
+    (number-known text.number)
+    (known-append (base_extensions text.base) (scope ++ nulls) (base-known text.base) others)
 
 list-field-is : (xs : List Extension) → AreKnown xs → length (crl_field xs) ≤ 4194304 → IfAny 0xA0 (Within 0x30 AreExtensions) (crl_field xs) (field_of xs)
 unfolding crl_field
@@ -196,7 +198,7 @@ unfolding crl_tbs crl_content
 list-fields-short t n text le =
     let within = content-short 0x30 (crl_content t n text) in
     let all : length (crl_content t n text) ≤ 4194304 = omega arith in
-    let p = parts (version_octets V2) algorithm_identifier (name_octets text.issuer.now) t n (revoked_octets t text.entries.now) (crl_field (crl_extensions text)) all in
+    let p = parts (crl_version_octets V2) algorithm_identifier (name_octets text.issuer.now) t n (revoked_octets t text.entries.now) (crl_field (crl_extensions text)) all in
     record { content = all; issuer = p.0; issued = p.1; next = p.2; revoked = p.3; extensions = p.4 }
 
 list-tbs-is : (t n : List ℕ) (issued next : Time) (text : CrlText) → IsSayableCrl text → IsTime t issued → IsTime n next → length (crl_tbs t n text) ≤ 4194304
@@ -243,7 +245,7 @@ list-parts-short t n text le =
     record { content = omega arith; tbs = omega arith; signature = omega arith }
 
 pub list-signed-is : (t n : List ℕ) (issued next : Time) (text : CrlText) → IsSayableCrl text → IsTime t issued → IsTime n next → length (made_crl t n text) ≤ 4194304
-    → Within 0x30 IsSigned (made_crl t n text) (crl_said t n issued next text)
+    → Within 0x30 IsSignedCrl (made_crl t n text) (crl_said t n issued next text)
 unfolding made_crl
 list-signed-is t n issued next text sayable from to le =
     let short = list-parts-short t n text le in

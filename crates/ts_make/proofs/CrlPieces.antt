@@ -5,13 +5,13 @@ use Rattle.std.specs.List.{flat_map}
 use Rattle.ts_der.specs.declared.oid.OidRef.{OidRef}
 use Rattle.ts_der.specs.Element.{length_octets}
 use Rattle.ts_crl.specs.declared.version.ListVersion.TheVariants.{V2}
-use Rattle.ts_crl.specs.Encoding.{version_octets}
+use Rattle.ts_crl.specs.Encoding.{crl_version_octets}
 use Rattle.ts_make.specs.Extensions.{extension_octets}
 use Rattle.ts_make.specs.CrlExtensions.{null_extension}
 use Rattle.ts_make.proofs.TooLong.{pieces-next}
 
 -- version 2
-pub version-2 : 2 ∷ 1 ∷ 1 ∷ [] ≡ version_octets V2
+pub version-2 : 2 ∷ 1 ∷ 1 ∷ [] ≡ crl_version_octets V2
 unfolding length_octets
 version-2 = refl
 

@@ -34,7 +34,10 @@ full-read here content rest le e =
     let one = next-only here 0xA0 content rest fits e in
     rw one (by_names (general_names_of (encoded_at here.at 0xA0 content)))
   where
-    by_names : (r : Result (List GeneralName) Fault) → NotRelative {A = PointName × Place} (λ x. is_relative_name (Some x.0)) ((r >>= λ names. Ok (fullName names)) >>= λ x. Ok (x, record { rest = rest; at = here.at + length (encode 0xA0 content) }))
+    by_names : (r : Result (List GeneralName) Fault)
+        → NotRelative {A = PointName × Place} (λ x. is_relative_name (Some x.0))
+        ((r >>= λ names. Ok (fullName names)) >>= λ x. Ok
+        (x, record { rest = rest; at = here.at + length (encode 0xA0 content) }))
     by_names (Ok names) = refl
     by_names (Err f) = tt
 
@@ -70,7 +73,15 @@ name-read here (u ∷ us) reasons le e =
     rw (ap (begins_with 0xA0) e, one) (by_name (wrapped_name_of tlv) (wrapped-read tlv names (omega arith) refl))
   where
     by_name : (r : Result PointName Fault) → NotRelative (λ x. is_relative_name (Some x)) r
-        → Leaves is_relative_name (some_reasons reasons) (r >>= λ x. Ok (Some x, record { rest = some_reasons reasons; at = here.at + length (encode 0xA0 (encode 0xA0 (flat_map uri_octets (u ∷ us)))) }))
+        → Leaves is_relative_name (some_reasons reasons)
+        (r >>= λ x. Ok (
+          Some x,
+          record {
+            rest = some_reasons reasons;
+            at =
+                here.at + length (encode 0xA0 (encode 0xA0 (flat_map uri_octets (u ∷ us))));
+          },
+        ))
     by_name (Ok x) not = (not, refl)
     by_name (Err f) not = tt
 
@@ -101,25 +112,60 @@ no-flag : (tag : ℕ) (reasons : List ℕ) → eqb 0x83 tag ≡ false → begins
 no-flag tag [] e = refl
 no-flag tag (n ∷ ns) e = e
 
-pub scope-read : (e : Tlv) (uris : List (Bor (List ℕ))) (reasons : List ℕ) → length (full_name uris ++ some_reasons reasons) ≤ 4194304 → e.content ≡ full_name uris ++ some_reasons reasons → IsPlain (issuing_point_of e)
+pub scope-read : (e : Tlv) (uris : List (Bor (List ℕ))) (reasons : List ℕ)
+    → length (full_name uris ++ some_reasons reasons) ≤ 4194304 → e.content ≡ full_name uris
+    ++ some_reasons reasons → IsPlain (issuing_point_of e)
 unfolding issuing_point_of
 scope-read e uris reasons le is =
     let both = length-append (full_name uris) (some_reasons reasons) in
     by_name (optional_of 0xA0 wrapped_name_of (inside e)) (name-read (inside e) uris reasons (omega arith) is) (omega arith)
   where
     by_end : (name : Option PointName) (flags : Option (List Bool)) (r : Result (Unit {0}) Fault) → is_relative_name name ≡ false
-        → IsPlain (r >>= λ done. Ok (record { distributionPoint = name; onlyContainsUserCerts = false; onlyContainsCACerts = false; onlySomeReasons = flags; indirectCRL = false; onlyContainsAttributeCerts = false }))
+        → IsPlain (r >>= λ done. Ok
+        (record {
+          distributionPoint = name;
+          onlyContainsUserCerts = false;
+          onlyContainsCACerts =
+              false;
+          onlySomeReasons = flags;
+          indirectCRL = false;
+          onlyContainsAttributeCerts =
+              false;
+        }))
     by_end name flags (Ok done) not = (refl, not)
     by_end name flags (Err f) not = tt
 
     by_reasons : (name : Option PointName) (r : Result (Option (List Bool) × Place) Fault) → is_relative_name name ≡ false → Leaves (λ x. false) [] r
-        → IsPlain (r >>= λ reasons. flag_at 0x84 reasons.1 >>= λ indirect. flag_at 0x85 indirect.1 >>= λ attribute. end_at attribute.1 >>= λ done. Ok (record { distributionPoint = name; onlyContainsUserCerts = false; onlyContainsCACerts = false; onlySomeReasons = reasons.0; indirectCRL = indirect.0; onlyContainsAttributeCerts = attribute.0 }))
+        → IsPlain (r >>= λ reasons. flag_at 0x84 reasons.1 >>= λ indirect. flag_at 0x85 indirect.1
+        >>= λ attribute. end_at attribute.1 >>= λ done. Ok
+        (record {
+          distributionPoint = name;
+          onlyContainsUserCerts = false;
+          onlyContainsCACerts =
+              false;
+          onlySomeReasons = reasons.0;
+          indirectCRL =
+              indirect.0;
+          onlyContainsAttributeCerts = attribute.0;
+        }))
     by_reasons name (Ok x) not left =
         rw (flag-read 0x84 x.1 (ap (begins_with 0x84) left.1), flag-read 0x85 x.1 (ap (begins_with 0x85) left.1)) (by_end name x.0 (end_at x.1) not)
     by_reasons name (Err f) not left = tt
 
     by_name : (r : Result (Option PointName × Place) Fault) → Leaves is_relative_name (some_reasons reasons) r → length (some_reasons reasons) ≤ 4194304
-        → IsPlain (r >>= λ name. flag_at 0x81 name.1 >>= λ user. flag_at 0x82 user.1 >>= λ ca. optional_of 0x83 reason_flags_of ca.1 >>= λ reasons. flag_at 0x84 reasons.1 >>= λ indirect. flag_at 0x85 indirect.1 >>= λ attribute. end_at attribute.1 >>= λ done. Ok (record { distributionPoint = name.0; onlyContainsUserCerts = user.0; onlyContainsCACerts = ca.0; onlySomeReasons = reasons.0; indirectCRL = indirect.0; onlyContainsAttributeCerts = attribute.0 }))
+        → IsPlain (r >>= λ name. flag_at 0x81 name.1 >>= λ user. flag_at 0x82 user.1 >>= λ ca.
+        optional_of 0x83 reason_flags_of ca.1 >>= λ reasons. flag_at 0x84 reasons.1 >>=
+        λ indirect. flag_at 0x85 indirect.1 >>= λ attribute. end_at attribute.1 >>= λ done. Ok
+        (record {
+          distributionPoint = name.0;
+          onlyContainsUserCerts =
+              user.0;
+          onlyContainsCACerts = ca.0;
+          onlySomeReasons = reasons.0;
+          indirectCRL =
+              indirect.0;
+          onlyContainsAttributeCerts = attribute.0;
+        }))
     by_name (Ok x) left short =
         let user = flag-read 0x81 x.1 (ap (begins_with 0x81) left.1 ∙ no-flag 0x81 reasons refl) in
         let ca = flag-read 0x82 x.1 (ap (begins_with 0x82) left.1 ∙ no-flag 0x82 reasons refl) in

@@ -16,13 +16,13 @@ use Rattle.ts_field.proofs.Times.{time-part}
 use Rattle.sha2.specs.Sha256.{sha256}
 use Rattle.ts_sig.specs.StandIn.{algorithm_identifier}
 use Rattle.ts_time.specs.Civil.{IsInYears}
-use Rattle.ts_time.specs.Reading.{numbers_in, general_in}
+use Rattle.ts_time.specs.Reading.{numbers_in, generalized_time_in}
 use Rattle.ts_crl.specs.declared.version.ListVersion.TheVariants.{V2}
 use Rattle.ts_crl.specs.Fault.{broken}
-use Rattle.ts_crl.specs.Reading.{next_update_at, tbs_of, signed_of, whole_of, shape_of}
-use Rattle.ts_crl.specs.Encoding.{version_octets}
+use Rattle.ts_crl.specs.Reading.{next_update_at, crl_tbs_of, crl_signed_of, crl_whole_of, shape_of}
+use Rattle.ts_crl.specs.Encoding.{crl_version_octets}
 use Rattle.ts_crl.specs.Table.{crl_of}
-use Rattle.ts_crl.specs.Version.{version_of, version_at}
+use Rattle.ts_crl.specs.Version.{crl_version_of, crl_version_at}
 use Rattle.ts_make.specs.declared.crl_description.CrlText.{CrlText}
 use Rattle.ts_make.specs.Description.{rdns_in, stand_in}
 use Rattle.ts_make.specs.Times.{IsTimeOf}
@@ -38,7 +38,7 @@ use Rattle.ts_make.proofs.CrlEncoded.{list-fields-short, list-parts-short}
 
 -- an empty GeneralizedTime is no time of the next list
 empty-next : (here : Place) (rest : List ℕ) → here.rest ≡ encode 0x18 [] ++ rest → next_update_at here ≡ Err (fault_at here.at TimeRule)
-unfolding next_update_at optional_of time_of general_in numbers_in
+unfolding next_update_at optional_of time_of generalized_time_in numbers_in
 empty-next here rest e =
     let one = element-only here 0x18 [] rest fits-empty e in
     let utc : begins_with 0x17 here.rest ≡ false = ap (begins_with 0x17) e in
@@ -49,8 +49,8 @@ fits-version : Fits 0x02 (1 ∷ [])
 fits-version = record { octet = omega arith; low = omega arith; short = omega arith }
 
 -- version 2 is read
-version-read : (here : Place) (rest : List ℕ) → here.rest ≡ version_octets V2 ++ rest → version_at here ≡ Ok (V2, record { rest = rest; at = here.at + length (version_octets V2) })
-unfolding version_at optional_at version_of
+version-read : (here : Place) (rest : List ℕ) → here.rest ≡ crl_version_octets V2 ++ rest → crl_version_at here ≡ Ok (V2, record { rest = rest; at = here.at + length (crl_version_octets V2) })
+unfolding crl_version_at optional_at crl_version_of
 version-read here rest e =
     let one = element-only here 0x02 (1 ∷ []) rest fits-version e in
     let there : begins_with 0x02 here.rest ≡ true = ap (begins_with 0x02) e in
@@ -61,8 +61,8 @@ abbrev pub IsOutsideCrl : CrlText → Type 0
 IsOutsideCrl text = (IsInYears 0 9999 text.this_update → ⊥) ⊎ (IsInYears 0 9999 text.this_update × (IsInYears 0 9999 text.next_update → ⊥))
 
 tbs-refused : (t n : List ℕ) (text : CrlText) (e : Tlv) → IsSayableCrl text → IsTimeOf t text.this_update → IsTimeOf n text.next_update → length (crl_tbs t n text) ≤ 4194304 → IsOutsideCrl text
-    → e.content ≡ crl_content t n text → IsRefused (tbs_of e)
-unfolding tbs_of crl_content
+    → e.content ≡ crl_content t n text → IsRefused (crl_tbs_of e)
+unfolding crl_tbs_of crl_content
 tbs-refused t n text e sayable from to le outside whole = by_moment outside
   where
     r5 : List ℕ
@@ -81,7 +81,7 @@ tbs-refused t n text e sayable from to le outside whole = by_moment outside
     r1 = algorithm_identifier ++ r2
 
     p1 : Place
-    p1 = record { rest = r1; at = e.start + length (version_octets V2) }
+    p1 = record { rest = r1; at = e.start + length (crl_version_octets V2) }
 
     p2 : Place
     p2 = record { rest = r2; at = p1.at + length algorithm_identifier }
@@ -92,7 +92,7 @@ tbs-refused t n text e sayable from to le outside whole = by_moment outside
     p4 : Place
     p4 = record { rest = r4; at = p3.at + length t }
 
-    by_moment : IsOutsideCrl text → IsRefused (tbs_of e)
+    by_moment : IsOutsideCrl text → IsRefused (crl_tbs_of e)
     by_moment (inl away) =
         let short = list-fields-short t n text le in
         let v = version-read (inside e) r1 whole in
@@ -110,9 +110,11 @@ tbs-refused t n text e sayable from to le outside whole = by_moment outside
         let x = empty-next p4 r5 (ap (λ (o : List ℕ). o ++ r5) (outside-is n text.next_update to away.1)) in
         (p4.at, rw (v, a, i, u, x) refl)
 
-signed-refused : (t n : List ℕ) (text : CrlText) (e : Tlv) (rest : List ℕ) → IsSayableCrl text → IsTimeOf t text.this_update → IsTimeOf n text.next_update → length (crl_tbs t n text) ≤ 4194304 → IsOutsideCrl text
-    → e.content ≡ crl_tbs t n text ++ rest → IsRefused (signed_of e)
-unfolding signed_of crl_tbs
+signed-refused : (t n : List ℕ) (text : CrlText) (e : Tlv) (rest : List ℕ) → IsSayableCrl text
+    → IsTimeOf t text.this_update → IsTimeOf n text.next_update
+    → length (crl_tbs t n text) ≤ 4194304 → IsOutsideCrl text
+    → e.content ≡ crl_tbs t n text ++ rest → IsRefused (crl_signed_of e)
+unfolding crl_signed_of crl_tbs
 signed-refused t n text e rest sayable from to le outside whole =
     let short = list-fields-short t n text le in
     let first = element-only (inside e) 0x30 (crl_content t n text) rest (fits-sequence (crl_content t n text) short.content) whole in
@@ -121,7 +123,7 @@ signed-refused t n text e rest sayable from to le outside whole =
 
 shape-refused : (t n : List ℕ) (text : CrlText) → IsSayableCrl text → IsTimeOf t text.this_update → IsTimeOf n text.next_update → length (made_crl t n text) ≤ 4194304 → IsOutsideCrl text
     → IsRefused (shape_of (made_crl t n text))
-unfolding shape_of whole_of made_crl
+unfolding shape_of crl_whole_of made_crl
 shape-refused t n text sayable from to le outside =
     let short = list-parts-short t n text le in
     let tbs = crl_tbs t n text in

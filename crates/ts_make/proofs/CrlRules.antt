@@ -1,5 +1,7 @@
 -- The rules of a CRL that what is made may break.
-use Rattle.std.proofs.Common.{◌++◌, ◌&&◌, not, ◌≡◌, ℕ, ◌≤◌, ◌⊎◌, inl, inr, Bool, true, false, cond, List, [], ◌∷◌, length, Option, Some, None, Result, Ok, Err, refl, sym, ap, subst, ◌∙◌, arith, length-append}
+use Rattle.std.proofs.Common.{◌++◌, ◌&&◌, not, ◌≡◌, ℕ, ◌≤◌, ◌⊎◌, inl, inr, Bool, true, false, cond}
+use Rattle.std.proofs.Common.{List, [], ◌∷◌, length, Option, Some, None, Result, Ok, Err, refl, sym}
+use Rattle.std.proofs.Common.{ap, subst, ◌∙◌, arith, length-append}
 use Rattle.std.specs.Prelude.{IfOk, IfErr, option_map, unwrap_or, map, is_none}
 use Rattle.std.specs.List.{AllByRecursion, flat_map}
 use Rattle.std.proofs.lemmas.List.Concat.{flat_map-append}
@@ -23,7 +25,7 @@ use Rattle.ts_field.specs.declared.time.Time.{Time}
 use Rattle.ts_crl.specs.Entries.{entries_of}
 use Rattle.ts_crl.specs.Fault.{ListFault, broken, noNextUpdate, criticalCrlExtension, indirect, relativeName, deltaCrl}
 use Rattle.ts_crl.specs.List.{LocatedList, CertificateList, unlocated_list}
-use Rattle.ts_crl.specs.Profile.{profile_fault, unprocessed, is_indirect, is_relative, is_delta, has_number}
+use Rattle.ts_crl.specs.Profile.{profile_fault, first_unprocessed, is_indirect, is_relative, is_delta, has_number}
 use Rattle.ts_crl.specs.Reading.{shape_of}
 use Rattle.ts_crl.specs.Rules.{as_ruled, placed_fault}
 use Rattle.ts_crl.specs.Table.{unless_broken, crl_of}
@@ -32,7 +34,7 @@ use Rattle.ts_make.specs.declared.crl_description.EntryText.{EntryText}
 use Rattle.ts_make.specs.declared.crl_description.CrlText.{CrlText}
 use Rattle.ts_make.specs.declared.fault.MakeFault.{MakeFault}
 use Rattle.ts_make.specs.declared.fault.MakeFault.TheVariants.{Memory, TooLong, Unreadable}
-use Rattle.ts_make.specs.Extensions.{extension_octets, sequence, field_of}
+use Rattle.ts_make.specs.Extensions.{extension_octets, sequence_extension, field_of}
 use Rattle.ts_make.specs.Sayable.{IfWritten}
 use Rattle.ts_make.specs.Times.{IsTimeOf}
 use Rattle.ts_make.specs.CrlExtensions.{reason_extension, number_extensions, base_extensions, scope_content, null_extension, crl_extensions, crl_field}
@@ -70,7 +72,9 @@ field-list (x ∷ xs) = refl
 none-broken : (t n : List ℕ) (text : CrlText) (is : IsCrlRead t n text) → AreAllowedInCrl (crl_extensions text) → placed_fault is.standing ≡ None
 none-broken t n text is allowed =
     let l = is.standing in
-    let xs : unwrap_or (unlocated_list l).tbsCertList.crlExtensions [] ≡ crl_extensions text = ap (λ (c : CertificateList). unwrap_or c.tbsCertList.crlExtensions []) is.same ∙ field-list (crl_extensions text) in
+    let xs : unwrap_or (unlocated_list l).tbsCertList.crlExtensions [] ≡ crl_extensions text =
+    ap (λ (c : CertificateList). unwrap_or c.tbsCertList.crlExtensions []) is.same
+    ∙ field-list (crl_extensions text) in
     none-placed l
     (ap (λ (c : CertificateList). c.tbsCertList.version) is.same)
     (ap (λ (c : CertificateList). c.tbsCertList.signature.whole) is.same ∙ sym (ap (λ (c : CertificateList). c.signatureAlgorithm.whole) is.same))
@@ -80,7 +84,9 @@ none-broken t n text is allowed =
 
 -- no rule of the profile has a place
 chain : (a b c d : Bool) (o : Option (List ℕ)) (f : CertFault)
-    → ((cond a (Some noNextUpdate) None) or_else option_map (λ oid. criticalCrlExtension oid) o or_else (cond b (Some indirect) None) or_else (cond c (Some relativeName) None) or_else (cond d (Some deltaCrl) None)) ≡ Some (broken f) → ⊥
+    → ((cond a (Some noNextUpdate) None) or_else option_map (λ oid. criticalCrlExtension oid) o
+    or_else (cond b (Some indirect) None) or_else (cond c (Some relativeName) None) or_else
+    (cond d (Some deltaCrl) None)) ≡ Some (broken f) → ⊥
 chain true b c d o f e = absurd cc
 chain false b c d (Some oid) f e = absurd cc
 chain false true c d None f e = absurd cc
@@ -107,7 +113,11 @@ refusal t n text fault sayable from to le e =
           let is = is-list-read t n text sayable from to le years.0 years.1 in
           let l = is.standing in
           let c = unlocated_list l in
-          inr (λ allowed. not-broken l (profile_fault c) fault (chain (is_none c.tbsCertList.nextUpdate) (is_indirect c) (is_relative c) (is_delta c && not (has_number c)) (unprocessed c) fault) (sym (crl-read (made_crl t n text) l is.shape ∙ profile-left l (none-broken t n text is allowed)) ∙ e))
+          inr (λ allowed. not-broken l (profile_fault c) fault
+          (chain (is_none c.tbsCertList.nextUpdate) (is_indirect c) (is_relative c)
+          (is_delta c && not (has_number c)) (first_unprocessed c) fault)
+          (sym (crl-read (made_crl t n text) l is.shape
+          ∙ profile-left l (none-broken t n text is allowed)) ∙ e))
       | inr outside ↦
           let refused = list-refused t n text sayable from to le outside in
           inl (one-fault (crl_of (made_crl t n text)) fault (breaks refused.0 (Der TimeForm)) e refused.1, either text outside)
@@ -137,7 +147,7 @@ scope-within text =
     let content = scope_content text.uris.now text.reasons.now in
     let numbers = number_extensions text.number in
     let bases = base_extensions text.base in
-    let scope = sequence 28 true content in
+    let scope = sequence_extension 28 true content in
     let nulls = map null_extension text.critical.now in
     let within = sequence-within [] 28 true content in
     let first = ap (λ (o : List ℕ). length o) (flat_map-append extension_octets numbers (bases ++ (scope ++ nulls))) in
@@ -149,7 +159,7 @@ scope-within text =
     let field = field-within (numbers ++ (bases ++ (scope ++ nulls))) in
     omega arith
 
-left-read : (l : LocatedList) (o : Option (List ℕ)) (d n : Bool) → unprocessed (unlocated_list l) ≡ o → is_delta (unlocated_list l) ≡ d → has_number (unlocated_list l) ≡ n
+left-read : (l : LocatedList) (o : Option (List ℕ)) (d n : Bool) → first_unprocessed (unlocated_list l) ≡ o → is_delta (unlocated_list l) ≡ d → has_number (unlocated_list l) ≡ n
     → IsReadAs (unless_broken l (option_map (λ oid. criticalCrlExtension oid) o or_else cond (d && not n) (Some deltaCrl) None)) (unlocated_list l)
 left-read l (Some oid) d n e f g = e
 left-read l None true false e f g = (e, f, g)
@@ -178,8 +188,13 @@ pub answers-made : (r : Result (Vec ℕ Global) MakeFault) (t n : List ℕ) (tex
     → AnswersCrl IsWhole r (made_crl t n text) → AnswersCrl IsTaken r (made_crl t n text)
 answers-made (Ok v) t n text sayable from to h =
     let years = list-years t n text sayable from to h.1 h.2 in
-    let is = is-list-read t n text sayable from to h.1 years.0 years.1 in
-    (h.0, h.1, subst IsTaken (sym (whole-read t n text is h.1 h.2)) (left-taken is.standing (unprocessed (unlocated_list is.standing)) (is_delta (unlocated_list is.standing) && not (has_number (unlocated_list is.standing)))))
+    let is = is-list-read t n text sayable from to h.1 years.0 years.1 in (
+      h.0,
+      h.1,
+      subst IsTaken (sym (whole-read t n text is h.1 h.2))
+          (left-taken is.standing (first_unprocessed (unlocated_list is.standing))
+          (is_delta (unlocated_list is.standing) && not (has_number (unlocated_list is.standing)))),
+    )
 answers-made (Err Memory) t n text sayable from to h = tt
 answers-made (Err TooLong) t n text sayable from to h = h
 answers-made (Err (Unreadable fault)) t n text sayable from to h = h
@@ -194,6 +209,9 @@ answers-described (Ok v) t n text sayable from to h =
       l,
       ap shape_of h.0 ∙ is.shape,
       subst (λ (c : CertificateList). IsCrlDescribed text c) (sym is.same) (is-described t n text sayable is.issued is.next is.issued_at is.next_at),
-      subst (λ (r : Result CertificateList ListFault). IsReadAs r (unlocated_list l)) (sym (ap crl_of h.0 ∙ whole-read t n text is h.1 h.2)) (left-read l (unprocessed (unlocated_list l)) (is_delta (unlocated_list l)) (has_number (unlocated_list l)) refl refl refl),
+      subst (λ (r : Result CertificateList ListFault). IsReadAs r (unlocated_list l))
+          (sym (ap crl_of h.0 ∙ whole-read t n text is h.1 h.2))
+          (left-read l (first_unprocessed (unlocated_list l)) (is_delta (unlocated_list l))
+          (has_number (unlocated_list l)) refl refl refl),
     )
 answers-described (Err e) t n text sayable from to h = tt

@@ -23,11 +23,11 @@ use Rattle.ts_field.specs.declared.time.Time.{Time}
 use Rattle.ts_crl.specs.Entries.{entries_of}
 use Rattle.ts_crl.specs.Fault.{ListFault, noNextUpdate, criticalCrlExtension, indirect, relativeName, deltaCrl}
 use Rattle.ts_crl.specs.List.{CertificateList, unlocated_list}
-use Rattle.ts_crl.specs.Profile.{profile_fault, unprocessed, is_indirect, is_relative, is_delta, has_number, is_relative_name, as_scope, scope_of, scope_meets, names_issuer}
-use Rattle.ts_crl.specs.Values.{is_known, extensions_of, ok_of, value_in_octets, value_if_any, value_among}
+use Rattle.ts_crl.specs.Profile.{profile_fault, first_unprocessed, is_indirect, is_relative, is_delta, has_number, is_relative_name, as_scope, scope_of, scope_meets, names_issuer}
+use Rattle.ts_crl.specs.Values.{is_known, list_extensions, ok_of, value_in_octets, value_if_any, value_among}
 use Rattle.ts_make.specs.declared.crl_description.EntryText.{EntryText}
 use Rattle.ts_make.specs.declared.crl_description.CrlText.{CrlText}
-use Rattle.ts_make.specs.Extensions.{field_of, sequence}
+use Rattle.ts_make.specs.Extensions.{field_of, sequence_extension}
 use Rattle.ts_make.specs.CrlExtensions.{number_extensions, base_extensions, full_name, some_reasons, scope_content, null_extension, crl_extensions}
 use Rattle.ts_make.proofs.CrlEncoded.{entry_said, revoked_said}
 use Rattle.ts_make.proofs.CrlAnswered.{IsCrlRead}
@@ -50,7 +50,9 @@ scope-value content le plain =
     behind : Place
     behind = record { rest = []; at = (inside (encoded_at 0 0x04 (encode 0x30 content))).at + length (encode 0x30 content) }
 
-    by_end : (p : ListScope) (r : Result (Unit {0}) Fault) → (p.indirectCRL ≡ false) × (is_relative_name p.distributionPoint ≡ false) → IsPlainScope (as_scope (ok_of (r >>= λ done. Ok (issuingDistributionPoint p))))
+    by_end : (p : ListScope) (r : Result (Unit {0}) Fault) → (p.indirectCRL ≡ false)
+        × (is_relative_name p.distributionPoint ≡ false)
+        → IsPlainScope (as_scope (ok_of (r >>= λ done. Ok (issuingDistributionPoint p))))
     by_end p (Ok done) is = is
     by_end p (Err f) is = tt
 
@@ -77,16 +79,24 @@ plain-nulls (oid ∷ oids) = by_test (bytes_eq oid.content.now (identifier_of Is
     by_test true t rest = subst IsPlainScope (sym (null-scope oid.content.now ((bytes_eq-Decides oid.content.now (identifier_of IssuingDistributionPoint)).0 t))) tt
     by_test false t rest = rest
 
-plain-number : (n : Option ℕ) (ys : List Extension) → IsPlainScope (as_scope (value_among ListHolder IssuingDistributionPoint ys)) → IsPlainScope (as_scope (value_among ListHolder IssuingDistributionPoint (number_extensions n ++ ys)))
+plain-number : (n : Option ℕ) (ys : List Extension)
+    → IsPlainScope (as_scope (value_among ListHolder IssuingDistributionPoint ys))
+    → IsPlainScope (as_scope
+    (value_among ListHolder IssuingDistributionPoint (number_extensions n ++ ys)))
 plain-number None ys plain = plain
 plain-number (Some n) ys plain = plain
 
-plain-base : (n : Option ℕ) (ys : List Extension) → IsPlainScope (as_scope (value_among ListHolder IssuingDistributionPoint ys)) → IsPlainScope (as_scope (value_among ListHolder IssuingDistributionPoint (base_extensions n ++ ys)))
+plain-base : (n : Option ℕ) (ys : List Extension)
+    → IsPlainScope (as_scope (value_among ListHolder IssuingDistributionPoint ys))
+    → IsPlainScope (as_scope
+    (value_among ListHolder IssuingDistributionPoint (base_extensions n ++ ys)))
 plain-base None ys plain = plain
 plain-base (Some n) ys plain = plain
 
-plain-sequence : (content : List ℕ) (ys : List Extension) → length content ≤ 4194304 → ((e : Tlv) → e.content ≡ content → IsPlain (issuing_point_of e)) → IsPlainScope (as_scope (value_among ListHolder IssuingDistributionPoint ys))
-    → IsPlainScope (as_scope (value_among ListHolder IssuingDistributionPoint (sequence 28 true content ++ ys)))
+plain-sequence : (content : List ℕ) (ys : List Extension) → length content ≤ 4194304
+    → ((e : Tlv) → e.content ≡ content → IsPlain (issuing_point_of e))
+    → IsPlainScope (as_scope (value_among ListHolder IssuingDistributionPoint ys))
+    → IsPlainScope (as_scope (value_among ListHolder IssuingDistributionPoint (sequence_extension 28 true content ++ ys)))
 unfolding known_at list_extension
 plain-sequence [] ys le read plain = plain
 plain-sequence (octet ∷ content) ys le read plain = scope-value (octet ∷ content) le read
@@ -96,8 +106,8 @@ unfolding crl_extensions scope_content
 plain-scope text le =
     let content = full_name text.uris.now ++ some_reasons text.reasons.now in
     let nulls = map null_extension text.critical.now in
-    plain-number text.number (base_extensions text.base ++ (sequence 28 true content ++ nulls))
-    (plain-base text.base (sequence 28 true content ++ nulls) (plain-sequence content nulls le (λ e is. scope-read e text.uris.now text.reasons.now le is) (plain-nulls text.critical.now)))
+    plain-number text.number (base_extensions text.base ++ (sequence_extension 28 true content ++ nulls))
+    (plain-base text.base (sequence_extension 28 true content ++ nulls) (plain-sequence content nulls le (λ e is. scope-read e text.uris.now text.reasons.now le is) (plain-nulls text.critical.now)))
 
 -- no entry names another issuer
 no-issuer : (date : Time) (es : List EntryText) → list_any names_issuer (map (entry_said date) es) ≡ false
@@ -114,16 +124,19 @@ meets (Some p) plain = plain
 
 -- the rules of the profile that may be broken
 abbrev pub left_fault : CertificateList → Option ListFault
-left_fault c = option_map (λ oid. criticalCrlExtension oid) (unprocessed c) or_else cond (is_delta c && not (has_number c)) (Some deltaCrl) None
+left_fault c = option_map (λ oid. criticalCrlExtension oid) (first_unprocessed c) or_else cond (is_delta c && not (has_number c)) (Some deltaCrl) None
 
 pub only-left : (c : CertificateList) → is_none c.tbsCertList.nextUpdate ≡ false → list_any names_issuer (entries_of c) ≡ false → IsPlainScope (scope_of c) → profile_fault c ≡ left_fault c
 only-left c next issuers plain =
     let m = meets (scope_of c) plain in
     let not_indirect : is_indirect c ≡ false = rw (m.0, issuers) refl in
-    chain (is_none c.tbsCertList.nextUpdate) (is_indirect c) (is_relative c) (is_delta c && not (has_number c)) (unprocessed c) next not_indirect m.1
+    chain (is_none c.tbsCertList.nextUpdate) (is_indirect c) (is_relative c) (is_delta c && not (has_number c)) (first_unprocessed c) next not_indirect m.1
   where
     chain : (a b r d : Bool) (o : Option (List ℕ)) → a ≡ false → b ≡ false → r ≡ false
-        → ((cond a (Some noNextUpdate) None) or_else option_map (λ oid. criticalCrlExtension oid) o or_else (cond b (Some indirect) None) or_else (cond r (Some relativeName) None) or_else (cond d (Some deltaCrl) None)) ≡ (option_map (λ oid. criticalCrlExtension oid) o or_else cond d (Some deltaCrl) None)
+        → ((cond a (Some noNextUpdate) None) or_else option_map (λ oid. criticalCrlExtension oid) o
+        or_else (cond b (Some indirect) None) or_else (cond r (Some relativeName) None) or_else
+        (cond d (Some deltaCrl) None)) ≡
+        (option_map (λ oid. criticalCrlExtension oid) o or_else cond d (Some deltaCrl) None)
     chain false false false d None e f g = refl
     chain false false false d (Some oid) e f g = refl
     chain true b r d o e f g = absurd cc
@@ -138,7 +151,7 @@ pub profile-is : (t n : List ℕ) (text : CrlText) (is : IsCrlRead t n text) →
     → profile_fault (unlocated_list is.standing) ≡ left_fault (unlocated_list is.standing)
 profile-is t n text is le =
     let l = is.standing in
-    let xs : extensions_of (unlocated_list l) ≡ crl_extensions text = ap (λ (c : CertificateList). extensions_of c) is.same ∙ field-list (crl_extensions text) in
+    let xs : list_extensions (unlocated_list l) ≡ crl_extensions text = ap (λ (c : CertificateList). list_extensions c) is.same ∙ field-list (crl_extensions text) in
     only-left (unlocated_list l)
     (ap (λ (c : CertificateList). is_none c.tbsCertList.nextUpdate) is.same)
     (ap (λ (c : CertificateList). list_any names_issuer (entries_of c)) is.same ∙ no-issuers is.issued text.entries.now)

@@ -11,7 +11,7 @@ use Rattle.ts_cert.specs.Encoding.{IsTbs, IsSigned, version_octets}
 use Rattle.ts_make.specs.declared.description.CertText.{CertText}
 use Rattle.ts_make.specs.Serial.{serial_content}
 use Rattle.ts_make.specs.Sayable.{IsSayable}
-use Rattle.ts_make.specs.Made.{bit_octets, name_octets, key_octets, tbs_content, tbs_octets, made}
+use Rattle.ts_make.specs.Made.{bit_octets, name_octets, key_octets, tbs_content, tbs_octets, made_certificate}
 use Rattle.ts_make.proofs.StandIns.{content-short, fits-sequence, algorithm-is, bits-are, key-is}
 use Rattle.ts_make.proofs.SerialNumbers.{serial-encoded}
 use Rattle.ts_make.specs.Extensions.{described_extensions, field_octets}
@@ -49,7 +49,10 @@ unfolding tbs_octets tbs_content
 fields-short b a text le =
     let within = content-short 0x30 (tbs_content b a text) in
     let all : length (tbs_content b a text) ≤ 4194304 = omega arith in
-    let p = parts (version_octets V3) (encode 0x02 (serial_content text.serial)) algorithm_identifier (name_octets text.issuer.now) (encode 0x30 (b ++ a)) (name_octets text.subject.now) (key_octets text.key.now) (field_octets (described_extensions text.extensions.now)) all in
+    let p = parts (version_octets V3) (encode 0x02 (serial_content text.serial))
+    algorithm_identifier (name_octets text.issuer.now) (encode 0x30 (b ++ a))
+    (name_octets text.subject.now) (key_octets text.key.now)
+    (field_octets (described_extensions text.extensions.now)) all in
     let times = content-short 0x30 (b ++ a) in
     let both = length-append b a in
     record {
@@ -108,8 +111,8 @@ pub record PartsShort (b a : List ℕ) (text : CertText) : Type 0 where
   pub tbs : length (tbs_octets b a text) ≤ 4194304
   pub signature : length (bit_octets (sha256 (text.signer.now ++ tbs_octets b a text))) ≤ 4194304
 
-pub parts-short : (b a : List ℕ) (text : CertText) → length (made b a text) ≤ 4194304 → PartsShort b a text
-unfolding made
+pub parts-short : (b a : List ℕ) (text : CertText) → length (made_certificate b a text) ≤ 4194304 → PartsShort b a text
+unfolding made_certificate
 parts-short b a text le =
     let tbs = tbs_octets b a text in
     let bits = bit_octets (sha256 (text.signer.now ++ tbs)) in
@@ -119,9 +122,9 @@ parts-short b a text le =
     let e2 = length-append algorithm_identifier bits in
     record { content = omega arith; tbs = omega arith; signature = omega arith }
 
-pub signed-is : (b a : List ℕ) (before after : Time) (text : CertText) → IsSayable text → IsTime b before → IsTime a after → length (made b a text) ≤ 4194304
-    → Within 0x30 IsSigned (made b a text) (said b a before after text)
-unfolding made
+pub signed-is : (b a : List ℕ) (before after : Time) (text : CertText) → IsSayable text → IsTime b before → IsTime a after → length (made_certificate b a text) ≤ 4194304
+    → Within 0x30 IsSigned (made_certificate b a text) (said b a before after text)
+unfolding made_certificate
 signed-is b a before after text sayable from to le =
     let short = parts-short b a text le in
     let tbs = tbs_octets b a text in

@@ -11,8 +11,10 @@ use Rattle.ts_make.specs.declared.description.ExtensionText.{ExtensionText}
 use Rattle.ts_make.specs.declared.description.ExtensionText.TheVariants as part
 use Rattle.ts_make.specs.declared.kind.Kind.{Kind}
 use Rattle.ts_make.specs.declared.kind.Kind.TheVariants as kind
-use Rattle.ts_make.specs.Extensions.{critical_octets, extension_content, extension_octets, field_octets, field_of, id_ce, key_usage, sequence, alone, of_kind, kinds, described_extensions}
-use Rattle.ts_make.specs.KeyUsage.{numbers_in}
+use Rattle.ts_make.specs.Extensions.{critical_octets, extension_content, extension_octets}
+use Rattle.ts_make.specs.Extensions.{field_octets, field_of, id_ce, key_usage, sequence_extension}
+use Rattle.ts_make.specs.Extensions.{part_extensions, of_kind, kinds, described_extensions}
+use Rattle.ts_make.specs.KeyUsage.{usage_numbers}
 use Rattle.ts_make.proofs.StandIns.{content-short, fits-sequence}
 
 -- ---- object identifiers
@@ -29,7 +31,7 @@ known-pieces : {X : Type 0} (f : X → List Extension) (xs : List X) → ((x : X
 known-pieces f [] each = tt
 known-pieces f (x ∷ xs) each = known-append (f x) (flat_map f xs) (each x) (known-pieces f xs each)
 
-pub sequence-known : (arc : ℕ) (critical : Bool) (content : List ℕ) → is_oid (id_ce arc) ≡ true → AreKnown (sequence arc critical content)
+pub sequence-known : (arc : ℕ) (critical : Bool) (content : List ℕ) → is_oid (id_ce arc) ≡ true → AreKnown (sequence_extension arc critical content)
 sequence-known arc critical [] is = tt
 sequence-known arc critical (octet ∷ content) is = (is, tt)
 
@@ -38,7 +40,7 @@ unfolding is_oid series_of subidentifier
 usage-known [] = tt
 usage-known (n ∷ numbers) = (refl, tt)
 
-alone-known : (k : Kind) (text : ExtensionText) → AreKnown (alone k text)
+alone-known : (k : Kind) (text : ExtensionText) → AreKnown (part_extensions k text)
 unfolding is_oid series_of subidentifier
 alone-known kind.BasicConstraints (part.BasicConstraints length) = (refl, tt)
 alone-known kind.InhibitAnyPolicy (part.InhibitAnyPolicy n) = (refl, tt)
@@ -47,17 +49,17 @@ alone-known other text = tt
 
 kind-known : (texts : List ExtensionText) (k : Kind) → AreKnown (of_kind k texts)
 unfolding is_oid series_of subidentifier
-kind-known texts kind.KeyUsage = usage-known (numbers_in texts)
+kind-known texts kind.KeyUsage = usage-known (usage_numbers texts)
 kind-known texts kind.SubjectAltName = sequence-known 17 _ _ refl
-kind-known texts kind.BasicConstraints = known-pieces (alone kind.BasicConstraints) texts (alone-known kind.BasicConstraints)
+kind-known texts kind.BasicConstraints = known-pieces (part_extensions kind.BasicConstraints) texts (alone-known kind.BasicConstraints)
 kind-known texts kind.NameConstraints = sequence-known 30 _ _ refl
 kind-known texts kind.CrlDistributionPoints = sequence-known 31 _ _ refl
 kind-known texts kind.CertificatePolicies = sequence-known 32 _ _ refl
 kind-known texts kind.PolicyMappings = sequence-known 33 _ _ refl
 kind-known texts kind.PolicyConstraints = sequence-known 36 _ _ refl
 kind-known texts kind.ExtendedKeyUsage = sequence-known 37 _ _ refl
-kind-known texts kind.InhibitAnyPolicy = known-pieces (alone kind.InhibitAnyPolicy) texts (alone-known kind.InhibitAnyPolicy)
-kind-known texts kind.Critical = known-pieces (alone kind.Critical) texts (alone-known kind.Critical)
+kind-known texts kind.InhibitAnyPolicy = known-pieces (part_extensions kind.InhibitAnyPolicy) texts (alone-known kind.InhibitAnyPolicy)
+kind-known texts kind.Critical = known-pieces (part_extensions kind.Critical) texts (alone-known kind.Critical)
 
 pub described-known : (texts : List ExtensionText) → AreKnown (described_extensions texts)
 unfolding described_extensions

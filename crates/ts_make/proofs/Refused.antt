@@ -19,7 +19,7 @@ use Rattle.ts_cert.specs.Reading.{validity_of, validity_at, tbs_of, signed_of, w
 use Rattle.sha2.specs.Sha256.{sha256}
 use Rattle.ts_sig.specs.StandIn.{algorithm_identifier}
 use Rattle.ts_time.specs.Civil.{IsInYears}
-use Rattle.ts_time.specs.Reading.{numbers_in, general_in}
+use Rattle.ts_time.specs.Reading.{numbers_in, generalized_time_in}
 use Rattle.ts_time.proofs.CivilLemmas.{IsInYears-wider}
 use Rattle.ts_time.proofs.ReadingLemmas.{utc_in-only, general_in-only}
 use Rattle.ts_cert.specs.declared.version.Version.TheVariants.{V3}
@@ -34,7 +34,7 @@ use Rattle.ts_make.specs.Description.{rdns_in, stand_in}
 use Rattle.ts_make.specs.Sayable.{IsSayable}
 use Rattle.ts_make.specs.Extensions.{described_extensions, field_octets}
 use Rattle.ts_make.specs.Times.{IsTimeOf}
-use Rattle.ts_make.specs.Made.{bit_octets, name_octets, key_octets, tbs_content, tbs_octets, made}
+use Rattle.ts_make.specs.Made.{bit_octets, name_octets, key_octets, tbs_content, tbs_octets, made_certificate}
 use Rattle.ts_make.proofs.StandIns.{fits-sequence, algorithm-is}
 use Rattle.ts_make.proofs.SerialNumbers.{serial-encoded}
 use Rattle.ts_make.proofs.NameForms.{name-is}
@@ -48,7 +48,7 @@ fits-empty = record { octet = omega arith; low = omega arith; short = omega arit
 
 -- an empty GeneralizedTime is no time
 pub empty-time : (here : Place) (rest : List ℕ) → here.rest ≡ encode 0x18 [] ++ rest → time_at here ≡ Err (fault_at here.at TimeRule)
-unfolding time_at time_of general_in numbers_in
+unfolding time_at time_of generalized_time_in numbers_in
 empty-time here rest e =
     let one = next-only here 0x18 [] rest fits-empty e in
     rw one refl
@@ -132,9 +132,9 @@ signed-refused b a text e rest sayable from to le outside whole =
     let fields = tbs-refused b a text (encoded_at e.start 0x30 (tbs_content b a text)) sayable from to le outside refl in
     (fields.0, rw (first, fields.1) refl)
 
-pub certificate-refused : (b a : List ℕ) (text : CertText) → IsSayable text → IsTimeOf b text.from → IsTimeOf a text.to → length (made b a text) ≤ 65536 → IsOutside text
-    → IsRefused (certificate_of (made b a text))
-unfolding certificate_of whole_of made
+pub certificate-refused : (b a : List ℕ) (text : CertText) → IsSayable text → IsTimeOf b text.from → IsTimeOf a text.to → length (made_certificate b a text) ≤ 65536 → IsOutside text
+    → IsRefused (certificate_of (made_certificate b a text))
+unfolding certificate_of whole_of made_certificate
 certificate-refused b a text sayable from to le outside =
     let short = parts-short b a text (omega arith) in
     let tbs = tbs_octets b a text in

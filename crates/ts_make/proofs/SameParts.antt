@@ -11,7 +11,7 @@ use Rattle.ts_make.specs.declared.kind.Kind.{Kind}
 use Rattle.ts_make.specs.declared.kind.Kind.TheVariants as kind
 use Rattle.ts_make.specs.Items.{general_name, item, items_of}
 use Rattle.ts_make.specs.KeyUsage.{number_in}
-use Rattle.ts_make.specs.Extensions.{alone, constraints_content, policy_constraints_content, of_kind, kinds, described_extensions}
+use Rattle.ts_make.specs.Extensions.{part_extensions, constraints_content, policy_constraints_content, of_kind, kinds, described_extensions}
 
 -- ---- parts
 
@@ -102,15 +102,15 @@ number-same : (a b : ExtensionText) → IsSamePart a b → number_in a ≡ numbe
 number-same (part.KeyUsage a) (part.KeyUsage b) e = rw e refl
 number-same a b e = grind arith
 
-limit-same : (a b : ExtensionText) → IsSamePart a b → alone kind.BasicConstraints a ≡ alone kind.BasicConstraints b
+limit-same : (a b : ExtensionText) → IsSamePart a b → part_extensions kind.BasicConstraints a ≡ part_extensions kind.BasicConstraints b
 limit-same (part.BasicConstraints a) (part.BasicConstraints b) e = rw e refl
 limit-same a b e = grind arith
 
-any-same : (a b : ExtensionText) → IsSamePart a b → alone kind.InhibitAnyPolicy a ≡ alone kind.InhibitAnyPolicy b
+any-same : (a b : ExtensionText) → IsSamePart a b → part_extensions kind.InhibitAnyPolicy a ≡ part_extensions kind.InhibitAnyPolicy b
 any-same (part.InhibitAnyPolicy a) (part.InhibitAnyPolicy b) e = rw e refl
 any-same a b e = grind arith
 
-critical-same : (a b : ExtensionText) → IsSamePart a b → alone kind.Critical a ≡ alone kind.Critical b
+critical-same : (a b : ExtensionText) → IsSamePart a b → part_extensions kind.Critical a ≡ part_extensions kind.Critical b
 critical-same (part.Critical a) (part.Critical b) e = rw e refl
 critical-same a b e = grind arith
 
@@ -129,15 +129,15 @@ kind-same : (k : Kind) (xs ys : List ExtensionText) → AreSameParts xs ys → o
 unfolding constraints_content policy_constraints_content
 kind-same kind.KeyUsage xs ys same = rw (pieces-same number_in number-same xs ys same) refl
 kind-same kind.SubjectAltName xs ys same = rw (items-same items.AlternativeNames xs ys same) refl
-kind-same kind.BasicConstraints xs ys same = pieces-same (alone kind.BasicConstraints) limit-same xs ys same
+kind-same kind.BasicConstraints xs ys same = pieces-same (part_extensions kind.BasicConstraints) limit-same xs ys same
 kind-same kind.NameConstraints xs ys same = rw (items-same items.PermittedSubtrees xs ys same, items-same items.ExcludedSubtrees xs ys same) refl
 kind-same kind.CrlDistributionPoints xs ys same = rw (items-same items.DistributionPoints xs ys same) refl
 kind-same kind.CertificatePolicies xs ys same = rw (items-same items.Policies xs ys same) refl
 kind-same kind.PolicyMappings xs ys same = rw (items-same items.PolicyMappings xs ys same) refl
 kind-same kind.PolicyConstraints xs ys same = rw (items-same items.ExplicitPolicy xs ys same, items-same items.InhibitedMapping xs ys same) refl
 kind-same kind.ExtendedKeyUsage xs ys same = rw (items-same items.KeyPurposes xs ys same) refl
-kind-same kind.InhibitAnyPolicy xs ys same = pieces-same (alone kind.InhibitAnyPolicy) any-same xs ys same
-kind-same kind.Critical xs ys same = pieces-same (alone kind.Critical) critical-same xs ys same
+kind-same kind.InhibitAnyPolicy xs ys same = pieces-same (part_extensions kind.InhibitAnyPolicy) any-same xs ys same
+kind-same kind.Critical xs ys same = pieces-same (part_extensions kind.Critical) critical-same xs ys same
 
 -- parts that say the same describe the same extensions
 pub described-same : (xs ys : List ExtensionText) → AreSameParts xs ys → described_extensions xs ≡ described_extensions ys

@@ -40,8 +40,24 @@ serial-is n high =
         | inr le15 ↦ elim (cases_lt n (2 ^ 23)) [
           | inl lt ↦ rw (le-ltb n (2 ^ 7) le7, le-ltb n (2 ^ 15) le15, lt-ltb n (2 ^ 23) lt) (more (n / 2 ^ 16) (n / 2 ^ 8 % 2 ^ 8) (n % 2 ^ 8 ∷ []) n (omega arith) (λ z. omega arith) (omega arith))
           | inr le23 ↦ elim (cases_lt n (2 ^ 31)) [
-            | inl lt ↦ rw (le-ltb n (2 ^ 7) le7, le-ltb n (2 ^ 15) le15, le-ltb n (2 ^ 23) le23, lt-ltb n (2 ^ 31) lt) (more (n / 2 ^ 24) (n / 2 ^ 16 % 2 ^ 8) (n / 2 ^ 8 % 2 ^ 8 ∷ n % 2 ^ 8 ∷ []) n (omega arith) (λ z. omega arith) (omega arith))
-            | inr le31 ↦ rw (le-ltb n (2 ^ 7) le7, le-ltb n (2 ^ 15) le15, le-ltb n (2 ^ 23) le23, le-ltb n (2 ^ 31) le31) (more 0 (n / 2 ^ 24) (n / 2 ^ 16 % 2 ^ 8 ∷ n / 2 ^ 8 % 2 ^ 8 ∷ n % 2 ^ 8 ∷ []) n (omega arith) (λ z. omega arith) (omega arith))
+            | inl lt ↦ rw (
+              le-ltb n (2 ^ 7) le7,
+              le-ltb n (2 ^ 15) le15,
+              le-ltb n
+                  (2 ^ 23) le23,
+              lt-ltb n (2 ^ 31) lt,
+            )
+                (more (n / 2 ^ 24) (n / 2 ^ 16 % 2 ^ 8) (n / 2 ^ 8 % 2 ^ 8 ∷ n % 2 ^ 8 ∷ []) n
+                (omega arith) (λ z. omega arith) (omega arith))
+            | inr le31 ↦ rw (
+              le-ltb n (2 ^ 7) le7,
+              le-ltb n (2 ^ 15) le15,
+              le-ltb n
+                  (2 ^ 23) le23,
+              le-ltb n (2 ^ 31) le31,
+            )
+                (more 0 (n / 2 ^ 24) (n / 2 ^ 16 % 2 ^ 8 ∷ n / 2 ^ 8 % 2 ^ 8 ∷ n % 2 ^ 8 ∷ []) n
+                (omega arith) (λ z. omega arith) (omega arith))
           ]
         ]
       ]

@@ -73,7 +73,15 @@ mapping-part (part.PolicyMapping issuer subject) any le =
       content = first ++ second;
       fits = fits-sequence (first ++ second) (omega arith);
       encoded = refl;
-      value = record { issuer = first; subject = second; issuerDomainPolicy = oid-is issuer.content.now issuer.form (omega arith); subjectDomainPolicy = oid-is subject.content.now subject.form (omega arith); fields = refl };
+      value = record {
+        issuer = first;
+        subject = second;
+        issuerDomainPolicy =
+            oid-is issuer.content.now issuer.form (omega arith);
+        subjectDomainPolicy =
+            oid-is subject.content.now subject.form (omega arith);
+        fields = refl;
+      };
     })
 mapping-part other any le = refl
 

@@ -18,7 +18,7 @@ use Rattle.ts_make.specs.declared.description.ExtensionText.TheVariants as part
 use Rattle.ts_make.specs.declared.items.Items.TheVariants as items
 use Rattle.ts_make.specs.Items.{item, items_of, general_name, general_subtree, distribution_point}
 use Rattle.ts_make.specs.Extensions.{tagged_if_any, constraints_content}
-use Rattle.ts_make.specs.Told.{name_said, IsAsciiName, IsAsciiPart, AreAscii, alternative_name, subtree_said, permitted, excluded, if_any, point}
+use Rattle.ts_make.specs.Told.{name_said, IsAsciiName, IsAsciiPart, AreAscii, alternative_name, subtree_said, permitted_subtrees, excluded_subtrees, if_any, point}
 use Rattle.ts_make.proofs.StandIns.{content-short, fits-sequence}
 use Rattle.ts_make.proofs.ToldCrls.{told-items, one-item}
 
@@ -71,11 +71,11 @@ subtree-is name ascii le =
       };
     }
 
-permitted-part : (t : ExtensionText) → IsAsciiPart t → length (item items.PermittedSubtrees t) ≤ 4194304 → AreItems (Within 0x30 IsSubtree) (item items.PermittedSubtrees t) (permitted t)
+permitted-part : (t : ExtensionText) → IsAsciiPart t → length (item items.PermittedSubtrees t) ≤ 4194304 → AreItems (Within 0x30 IsSubtree) (item items.PermittedSubtrees t) (permitted_subtrees t)
 permitted-part (part.PermittedSubtree name) ascii le = one-item (Within 0x30 IsSubtree) (general_subtree name) (subtree_said name) (subtree-is name ascii le)
 permitted-part other ascii le = refl
 
-excluded-part : (t : ExtensionText) → IsAsciiPart t → length (item items.ExcludedSubtrees t) ≤ 4194304 → AreItems (Within 0x30 IsSubtree) (item items.ExcludedSubtrees t) (excluded t)
+excluded-part : (t : ExtensionText) → IsAsciiPart t → length (item items.ExcludedSubtrees t) ≤ 4194304 → AreItems (Within 0x30 IsSubtree) (item items.ExcludedSubtrees t) (excluded_subtrees t)
 excluded-part (part.ExcludedSubtree name) ascii le = one-item (Within 0x30 IsSubtree) (general_subtree name) (subtree_said name) (subtree-is name ascii le)
 excluded-part other ascii le = refl
 
@@ -99,7 +99,7 @@ items-short tag (o ∷ octets) = content-short tag (o ∷ octets)
 
 pub constraints-told : (texts : List ExtensionText) → AreAscii texts → length (constraints_content texts) ≤ 4194304
     → IsExt (Some extension.NameConstraints) (encode 0x30 (constraints_content texts))
-    (nameConstraints (record { permittedSubtrees = if_any (flat_map permitted texts); excludedSubtrees = if_any (flat_map excluded texts) }))
+    (nameConstraints (record { permittedSubtrees = if_any (flat_map permitted_subtrees texts); excludedSubtrees = if_any (flat_map excluded_subtrees texts) }))
 unfolding constraints_content
 constraints-told texts ascii le =
     let p = items_of items.PermittedSubtrees texts in
@@ -109,20 +109,20 @@ constraints-told texts ascii le =
     let both = length-append first second in
     let p_short = items-short 0xA0 p in
     let x_short = items-short 0xA1 x in
-    let p_are = told-items (Within 0x30 IsSubtree) (item items.PermittedSubtrees) permitted IsAsciiPart permitted-part texts ascii (omega arith) in
-    let x_are = told-items (Within 0x30 IsSubtree) (item items.ExcludedSubtrees) excluded IsAsciiPart excluded-part texts ascii (omega arith) in
+    let p_are = told-items (Within 0x30 IsSubtree) (item items.PermittedSubtrees) permitted_subtrees IsAsciiPart permitted-part texts ascii (omega arith) in
+    let x_are = told-items (Within 0x30 IsSubtree) (item items.ExcludedSubtrees) excluded_subtrees IsAsciiPart excluded-part texts ascii (omega arith) in
     record {
       content = first ++ second;
       fits = fits-sequence (first ++ second) le;
       encoded = refl;
       value = (
-        record { permittedSubtrees = if_any (flat_map permitted texts); excludedSubtrees = if_any (flat_map excluded texts) },
+        record { permittedSubtrees = if_any (flat_map permitted_subtrees texts); excludedSubtrees = if_any (flat_map excluded_subtrees texts) },
         refl,
         record {
           permitted = first;
           excluded = second;
-          permittedSubtrees = field-is 0xA0 p (flat_map permitted texts) (omega arith) (λ h. omega arith) p_are (omega arith);
-          excludedSubtrees = field-is 0xA1 x (flat_map excluded texts) (omega arith) (λ h. omega arith) x_are (omega arith);
+          permittedSubtrees = field-is 0xA0 p (flat_map permitted_subtrees texts) (omega arith) (λ h. omega arith) p_are (omega arith);
+          excludedSubtrees = field-is 0xA1 x (flat_map excluded_subtrees texts) (omega arith) (λ h. omega arith) x_are (omega arith);
           fields = refl;
         },
       );

@@ -1,5 +1,7 @@
 -- The BIT STRING of keyUsage has the bits whose numbers the parts say.
-use Rattle.std.proofs.Common.{◌≡◌, ◌≢◌, ℕ, zero, suc, ◌+◌, ◌-◌, ◌*◌, ◌/◌, ◌%◌, ◌<◌, ◌≤◌, ◌⊎◌, inl, inr, max, Bool, true, false, eqb, eq-eqb, List, [], ◌∷◌, ◌++◌, length, Some, refl, sym, ap, subst, ◌∙◌, arith}
+use Rattle.std.proofs.Common.{◌≡◌, ◌≢◌, ℕ, zero, suc, ◌+◌, ◌-◌, ◌*◌, ◌/◌, ◌%◌, ◌<◌, ◌≤◌, ◌⊎◌, inl}
+use Rattle.std.proofs.Common.{inr, max, Bool, true, false, eqb, eq-eqb, List, [], ◌∷◌, ◌++◌, length}
+use Rattle.std.proofs.Common.{Some, refl, sym, ap, subst, ◌∙◌, arith}
 use Rattle.std.specs.Prelude.{map, fold, replicate, ◌||◌}
 use Rattle.std.specs.List.{flat_map, range_with_len, list_any}
 use Rattle.std.proofs.lemmas.Bool.{ne_eqb, cases_eq, cases_lt}
@@ -46,11 +48,25 @@ eight a b c d e f g h =
     let lf = weight-low f in
     let lg = weight-low g in
     let lh = weight-low h in
-    rw (bit-is a (n / 128 % 2) (omega arith), bit-is b (n / 64 % 2) (omega arith), bit-is c (n / 32 % 2) (omega arith), bit-is d (n / 16 % 2) (omega arith), bit-is e (n / 8 % 2) (omega arith), bit-is f (n / 4 % 2) (omega arith), bit-is g (n / 2 % 2) (omega arith), bit-is h (n % 2) (omega arith)) refl
+    rw (
+      bit-is a (n / 128 % 2) (omega arith),
+      bit-is b (n / 64 % 2) (omega arith),
+      bit-is c
+          (n / 32 % 2) (omega arith),
+      bit-is d (n / 16 % 2) (omega arith),
+      bit-is e (n / 8 % 2)
+          (omega arith),
+      bit-is f (n / 4 % 2) (omega arith),
+      bit-is g (n / 2 % 2) (omega arith),
+      bit-is h
+          (n % 2) (omega arith),
+    ) refl
 
 -- ---- all octets
 
-range-eight : (f : ℕ → Bool) (b n m : ℕ) → m ≡ 8 * n + 8 → map f (range_with_len b m) ≡ f b ∷ f (b + 1) ∷ f (b + 2) ∷ f (b + 3) ∷ f (b + 4) ∷ f (b + 5) ∷ f (b + 6) ∷ f (b + 7) ∷ map f (range_with_len (b + 8) (8 * n))
+range-eight : (f : ℕ → Bool) (b n m : ℕ) → m ≡ 8 * n + 8 → map f (range_with_len b m) ≡ f b
+    ∷ f (b + 1) ∷ f (b + 2) ∷ f (b + 3) ∷ f (b + 4) ∷ f (b + 5) ∷ f (b + 6) ∷ f (b + 7)
+    ∷ map f (range_with_len (b + 8) (8 * n))
 range-eight f b n m e =
     let more : m ≡ suc (suc (suc (suc (suc (suc (suc (suc (8 * n)))))))) = omega arith in
     let e1 : b + 1 + 1 ≡ b + 2 = omega arith in
@@ -68,11 +84,20 @@ unfolding octet_from
 all-bits numbers a b zero e = refl
 all-bits numbers a b (suc n) e =
     let rest = all-bits numbers (a + 1) (b + 8) n (omega arith) in
-    let first = eight (is_set numbers b) (is_set numbers (b + 1)) (is_set numbers (b + 2)) (is_set numbers (b + 3)) (is_set numbers (b + 4)) (is_set numbers (b + 5)) (is_set numbers (b + 6)) (is_set numbers (b + 7)) in
+    let first = eight (is_set numbers b) (is_set numbers (b + 1)) (is_set numbers (b + 2))
+    (is_set numbers (b + 3)) (is_set numbers (b + 4)) (is_set numbers (b + 5))
+    (is_set numbers (b + 6)) (is_set numbers (b + 7)) in
     let bits = range-eight (is_set numbers) b n (8 * suc n) (omega arith) in
-    let octet : octet_bits (octet_from numbers (8 * a)) ≡ is_set numbers b ∷ is_set numbers (b + 1) ∷ is_set numbers (b + 2) ∷ is_set numbers (b + 3) ∷ is_set numbers (b + 4) ∷ is_set numbers (b + 5) ∷ is_set numbers (b + 6) ∷ is_set numbers (b + 7) ∷ [] = ap (λ (k : ℕ). octet_bits (octet_from numbers k)) e ∙ first in
+    let octet : octet_bits (octet_from numbers (8 * a)) ≡ is_set numbers b ∷ is_set numbers (b + 1)
+    ∷ is_set numbers (b + 2) ∷ is_set numbers (b + 3) ∷ is_set numbers (b + 4)
+    ∷ is_set numbers (b + 5) ∷ is_set numbers (b + 6) ∷ is_set numbers (b + 7)
+    ∷ [] = ap (λ (k : ℕ). octet_bits (octet_from numbers k)) e ∙ first in
     let others = flat_map octet_bits (map (λ i. octet_from numbers (8 * i)) (range_with_len (a + 1) n)) in
-    ap (λ (o : List Bool). o ++ others) octet ∙ (ap (λ (r : List Bool). (is_set numbers b ∷ is_set numbers (b + 1) ∷ is_set numbers (b + 2) ∷ is_set numbers (b + 3) ∷ is_set numbers (b + 4) ∷ is_set numbers (b + 5) ∷ is_set numbers (b + 6) ∷ is_set numbers (b + 7) ∷ []) ++ r) rest ∙ sym bits)
+    ap (λ (o : List Bool). o ++ others) octet
+    ∙ (ap (λ (r : List Bool).
+    (is_set numbers b ∷ is_set numbers (b + 1) ∷ is_set numbers (b + 2) ∷ is_set numbers (b + 3)
+    ∷ is_set numbers (b + 4) ∷ is_set numbers (b + 5) ∷ is_set numbers (b + 6)
+    ∷ is_set numbers (b + 7) ∷ []) ++ r) rest ∙ sym bits)
 
 -- ---- the bits after the last
 
@@ -137,8 +162,14 @@ bits-are numbers some =
     let joined = range-append (is_set numbers) 0 (last + 1) unused (last + 1) (omega arith) in
     let count : last + 1 + unused ≡ 8 * (last / 8 + 1) = omega arith in
     let octets = all-bits numbers 0 0 (last / 8 + 1) (omega arith) in
-    let padded : usage_bits numbers ++ replicate unused false ≡ flat_map octet_bits (usage_octets numbers) = rw (← behind) (joined ∙ (ap (λ (n : ℕ). map (is_set numbers) (range_with_len 0 n)) count ∙ sym octets)) in
-    let final : usage_bits numbers ≡ map (is_set numbers) (range_with_len 0 last) ++ true ∷ [] = map-range_with_len_more (is_set numbers) 0 last last (omega arith) ∙ ap (λ (b : Bool). map (is_set numbers) (range_with_len 0 last) ++ b ∷ []) (last-set numbers some) in
+    let padded : usage_bits numbers
+    ++ replicate unused false ≡ flat_map octet_bits (usage_octets numbers) =
+    rw (← behind) (joined
+    ∙ (ap (λ (n : ℕ). map (is_set numbers) (range_with_len 0 n)) count ∙ sym octets)) in
+    let final : usage_bits numbers ≡ map (is_set numbers) (range_with_len 0 last) ++ true
+    ∷ [] = map-range_with_len_more (is_set numbers) 0 last last (omega arith)
+    ∙ ap (λ (b : Bool). map (is_set numbers) (range_with_len 0 last) ++ b ∷ [])
+    (last-set numbers some) in
     record {
       encoded = record { unused = unused; octets = usage_octets numbers; parts = refl; few = omega arith; padded = padded };
       shortest = subst EndsInOne (sym final) (ends (map (is_set numbers) (range_with_len 0 last)));

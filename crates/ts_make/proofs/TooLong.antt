@@ -9,8 +9,8 @@ use Rattle.ts_make.specs.declared.fault.MakeFault.{MakeFault}
 use Rattle.ts_make.specs.declared.fault.MakeFault.TheVariants.{Memory, TooLong, Unreadable}
 use Rattle.ts_make.specs.Description.{rdn_in, rdns_in}
 use Rattle.ts_ext.specs.Extension.{Extension}
-use Rattle.ts_make.specs.Extensions.{critical_octets, extension_content, extension_octets, extension, id_ce, sequence}
-use Rattle.ts_make.specs.Writing.{IsTooLong}
+use Rattle.ts_make.specs.Extensions.{critical_octets, extension_content, extension_octets, extension, id_ce, sequence_extension}
+use Rattle.ts_make.specs.inside.Writing.{IsTooLong}
 
 -- what is longer is too long as well
 pub longer : (e : MakeFault) (a b : List ℕ) → IsTooLong e a → length a ≤ length b → IsTooLong e b
@@ -44,7 +44,20 @@ pieces-front f old (y ∷ ys) (suc i) x h =
     let rest = pieces-front f old ys i x (omega arith) in
     let front = flat_map f (take i ys) in
     let next = f (get_or ys i x) in
-    omega (arith, length-append (old ++ (f y ++ front)) next, length-append old (f y ++ front), length-append (f y) front, length-append (old ++ front) next, length-append old front, length-append old (f y ++ flat_map f ys), length-append (f y) (flat_map f ys), length-append old (flat_map f ys))
+    omega (
+      arith,
+      length-append (old ++ (f y ++ front)) next,
+      length-append old
+          (f y ++ front),
+      length-append (f y) front,
+      length-append (old ++ front) next,
+      length-append old
+          front,
+      length-append old (f y ++ flat_map f ys),
+      length-append (f y)
+          (flat_map f ys),
+      length-append old (flat_map f ys),
+    )
 
 pub pieces-next : {X : Type 0} (f : X → List ℕ) (old : List ℕ) (xs : List X) (i : ℕ) (x : X) → i < length xs → x ≡ get_or xs i x
     → length ((old ++ flat_map f (take i xs)) ++ f x) ≤ length (old ++ flat_map f xs)
@@ -60,20 +73,31 @@ value-within old x =
     let flag = critical_octets x.critical in
     let value = encode 0x04 x.extnValue in
     let content = encode 0x06 x.extnID ++ (flag ++ value) in
-    omega (arith, length-append old (encode 0x30 content ++ []), length-append (encode 0x30 content) [], length-append (length_octets (length content)) content, length-append (encode 0x06 x.extnID) (flag ++ value), length-append flag value, length-append (length_octets (length x.extnValue)) x.extnValue)
+    omega (
+      arith,
+      length-append old (encode 0x30 content ++ []),
+      length-append (encode 0x30 content)
+          [],
+      length-append (length_octets (length content)) content,
+      length-append (encode 0x06 x.extnID)
+          (flag ++ value),
+      length-append flag value,
+      length-append (length_octets (length x.extnValue))
+          x.extnValue,
+    )
 
 pub value-alone : (old : List ℕ) (x : Extension) → length x.extnValue ≤ length (old ++ extension_octets x)
 value-alone old x = subst (λ (o : List ℕ). length x.extnValue ≤ length (old ++ o)) (append-nil (extension_octets x)) (value-within old x)
 
 -- nor is the SEQUENCE that is the value of an extension
 pub sequence-value : (old : List ℕ) (arc : ℕ) (critical : Bool) (content : List ℕ) → 0 < length content
-    → length (encode 0x30 content) ≤ length (old ++ flat_map extension_octets (sequence arc critical content))
+    → length (encode 0x30 content) ≤ length (old ++ flat_map extension_octets (sequence_extension arc critical content))
 sequence-value old arc critical [] some = absurd (omega arith)
 sequence-value old arc critical (octet ∷ content) some = value-within old (extension (id_ce arc) critical (encode 0x30 (octet ∷ content)))
 
 -- nor what is in it
 pub sequence-within : (old : List ℕ) (arc : ℕ) (critical : Bool) (content : List ℕ)
-    → length content ≤ length (old ++ flat_map extension_octets (sequence arc critical content))
+    → length content ≤ length (old ++ flat_map extension_octets (sequence_extension arc critical content))
 sequence-within old arc critical [] = omega (arith, length-append old [])
 sequence-within old arc critical (octet ∷ content) =
     let value = sequence-value old arc critical (octet ∷ content) (omega arith) in

@@ -7,7 +7,7 @@ use Rattle.ts_sig.specs.StandIn.{stand_in_accepts}
 use Rattle.ts_crl.specs.declared.version.ListVersion.TheVariants.{V2}
 use Rattle.ts_crl.specs.Entries.{entries_of}
 use Rattle.ts_crl.specs.Fault.{ListFault, criticalCrlExtension, deltaCrl}
-use Rattle.ts_crl.specs.Profile.{unprocessed, is_delta, has_number}
+use Rattle.ts_crl.specs.Profile.{first_unprocessed, is_delta, has_number}
 use Rattle.ts_crl.specs.List.{RevokedCertificate, CertificateList}
 use Rattle.ts_make.specs.declared.crl_description.EntryText.{EntryText}
 use Rattle.ts_make.specs.declared.crl_description.CrlText.{CrlText}
@@ -54,7 +54,7 @@ IsCrlSignedBy signer c =
 -- (5.2), or, where it has none, as a delta without a number (5.2.3, 5.2.4)
 abbrev pub IsReadAs : Result CertificateList ListFault → CertificateList → Type 0
 IsReadAs (Ok c) list = c ≡ list
-IsReadAs (Err (criticalCrlExtension oid)) list = unprocessed list ≡ Some oid
-IsReadAs (Err deltaCrl) list = (unprocessed list ≡ None) × (is_delta list ≡ true)
+IsReadAs (Err (criticalCrlExtension oid)) list = first_unprocessed list ≡ Some oid
+IsReadAs (Err deltaCrl) list = (first_unprocessed list ≡ None) × (is_delta list ≡ true)
     × (has_number list ≡ false)
 IsReadAs (Err other) list = ⊥

@@ -11,7 +11,7 @@ use Rattle.ts_ext.specs.Encoding.{reason_number}
 use Rattle.ts_make.specs.declared.crl_description.CrlText.{CrlText}
 use Rattle.ts_make.specs.Serial.{serial_content}
 use Rattle.ts_make.specs.KeyUsage.{usage_content}
-use Rattle.ts_make.specs.Extensions.{extension_octets, extension, id_ce, sequence}
+use Rattle.ts_make.specs.Extensions.{extension_octets, extension, id_ce, sequence_extension}
 
 -- ---- of an entry
 
@@ -64,7 +64,7 @@ unfoldable pub crl_extensions : CrlText → List Extension
 crl_extensions text =
     number_extensions text.number
     ++ (base_extensions text.base
-    ++ (sequence 28 true (scope_content text.uris.now text.reasons.now)
+    ++ (sequence_extension 28 true (scope_content text.uris.now text.reasons.now)
     ++ map null_extension text.critical.now))
 
 -- crlExtensions [0] EXPLICIT Extensions OPTIONAL (5.1): absent where there are none

@@ -6,7 +6,7 @@ use Rattle.sha2.specs.Sha256.{sha256}
 use Rattle.ts_der.specs.Element.{encode}
 use Rattle.ts_sig.specs.StandIn.{algorithm_identifier}
 use Rattle.ts_crl.specs.declared.version.ListVersion.TheVariants.{V2}
-use Rattle.ts_crl.specs.Encoding.{version_octets}
+use Rattle.ts_crl.specs.Encoding.{crl_version_octets}
 use Rattle.ts_make.specs.declared.crl_description.EntryText.{EntryText}
 use Rattle.ts_make.specs.declared.crl_description.CrlText.{CrlText}
 use Rattle.ts_make.specs.Serial.{serial_content}
@@ -32,7 +32,7 @@ revoked_octets date (e ∷ es) = encode 0x30 (flat_map (entry_octets date) (e �
 -- revokedCertificates, crlExtensions } (5.1.2): each entry is of the moment of thisUpdate
 unfoldable pub crl_content : List ℕ → List ℕ → CrlText → List ℕ
 crl_content this next text =
-    version_octets V2
+    crl_version_octets V2
     ++ (algorithm_identifier
     ++ (name_octets text.issuer.now
     ++ (this

@@ -11,7 +11,7 @@ use Rattle.ts_make.specs.declared.kind.Kind.TheVariants as kind
 use Rattle.ts_make.specs.declared.items.Items.TheVariants as items
 use Rattle.ts_make.specs.Serial.{serial_content}
 use Rattle.ts_make.specs.Items.{items_of}
-use Rattle.ts_make.specs.KeyUsage.{numbers_in, usage_content}
+use Rattle.ts_make.specs.KeyUsage.{usage_numbers, usage_content}
 
 -- ---- the octets of extensions
 
@@ -63,16 +63,17 @@ basic_constraints_value length = encode 0x30
     (encode 0x01 (boolean_content true) ++ path_length length)
 
 -- the extensions that a part alone is
-abbrev pub alone : Kind → ExtensionText → List Extension
+abbrev pub part_extensions : Kind → ExtensionText → List Extension
 -- basicConstraints (4.2.1.9)
-alone kind.BasicConstraints (part.BasicConstraints length) =
+part_extensions kind.BasicConstraints (part.BasicConstraints length) =
     extension (id_ce 19) true (basic_constraints_value length) ∷ []
 -- inhibitAnyPolicy (4.2.1.14)
-alone kind.InhibitAnyPolicy (part.InhibitAnyPolicy n) =
+part_extensions kind.InhibitAnyPolicy (part.InhibitAnyPolicy n) =
     extension (id_ce 54) true (encode 0x02 (serial_content n)) ∷ []
 -- any other, with the value NULL (X.690 8.8)
-alone kind.Critical (part.Critical oid) = extension oid.content.now true (0x05 ∷ 0 ∷ []) ∷ []
-alone other text = []
+part_extensions kind.Critical (part.Critical oid) = extension oid.content.now true (0x05 ∷ 0 ∷ []) ∷
+    []
+part_extensions other text = []
 
 -- ---- those that parts gather in
 
@@ -82,9 +83,9 @@ tagged_if_any tag [] = []
 tagged_if_any tag (octet ∷ content) = encode tag (octet ∷ content)
 
 -- the extension whose value is a SEQUENCE, absent where it would be empty
-abbrev pub sequence : ℕ → Bool → List ℕ → List Extension
-sequence arc critical [] = []
-sequence arc critical (octet ∷ content) =
+abbrev pub sequence_extension : ℕ → Bool → List ℕ → List Extension
+sequence_extension arc critical [] = []
+sequence_extension arc critical (octet ∷ content) =
     extension (id_ce arc) critical (encode 0x30 (octet ∷ content)) ∷ []
 
 -- NameConstraints ::= SEQUENCE { permittedSubtrees [0] GeneralSubtrees OPTIONAL, excludedSubtrees
@@ -108,25 +109,26 @@ key_usage (n ∷ numbers) = extension (id_ce 15) true (encode 0x03 (usage_conten
 
 -- the extensions of one kind
 abbrev pub of_kind : Kind → List ExtensionText → List Extension
-of_kind kind.KeyUsage texts = key_usage (numbers_in texts)
+of_kind kind.KeyUsage texts = key_usage (usage_numbers texts)
 -- subjectAltName (4.2.1.6)
-of_kind kind.SubjectAltName texts = sequence 17 false (items_of items.AlternativeNames texts)
-of_kind kind.BasicConstraints texts = flat_map (alone kind.BasicConstraints) texts
+of_kind kind.SubjectAltName texts = sequence_extension 17 false
+    (items_of items.AlternativeNames texts)
+of_kind kind.BasicConstraints texts = flat_map (part_extensions kind.BasicConstraints) texts
 -- nameConstraints (4.2.1.10)
-of_kind kind.NameConstraints texts = sequence 30 true (constraints_content texts)
+of_kind kind.NameConstraints texts = sequence_extension 30 true (constraints_content texts)
 -- cRLDistributionPoints (4.2.1.13)
 of_kind kind.CrlDistributionPoints texts =
-    sequence 31 false (items_of items.DistributionPoints texts)
+    sequence_extension 31 false (items_of items.DistributionPoints texts)
 -- certificatePolicies (4.2.1.4)
-of_kind kind.CertificatePolicies texts = sequence 32 false (items_of items.Policies texts)
+of_kind kind.CertificatePolicies texts = sequence_extension 32 false (items_of items.Policies texts)
 -- policyMappings (4.2.1.5)
-of_kind kind.PolicyMappings texts = sequence 33 true (items_of items.PolicyMappings texts)
+of_kind kind.PolicyMappings texts = sequence_extension 33 true (items_of items.PolicyMappings texts)
 -- policyConstraints (4.2.1.11)
-of_kind kind.PolicyConstraints texts = sequence 36 true (policy_constraints_content texts)
+of_kind kind.PolicyConstraints texts = sequence_extension 36 true (policy_constraints_content texts)
 -- extKeyUsage (4.2.1.12)
-of_kind kind.ExtendedKeyUsage texts = sequence 37 false (items_of items.KeyPurposes texts)
-of_kind kind.InhibitAnyPolicy texts = flat_map (alone kind.InhibitAnyPolicy) texts
-of_kind kind.Critical texts = flat_map (alone kind.Critical) texts
+of_kind kind.ExtendedKeyUsage texts = sequence_extension 37 false (items_of items.KeyPurposes texts)
+of_kind kind.InhibitAnyPolicy texts = flat_map (part_extensions kind.InhibitAnyPolicy) texts
+of_kind kind.Critical texts = flat_map (part_extensions kind.Critical) texts
 
 -- the kinds, in the order in which they stand
 abbrev pub kinds : List Kind

@@ -15,8 +15,8 @@ abbrev pub number_in : ExtensionText → List ℕ
 number_in (part.KeyUsage n) = n ∷ []
 number_in other = []
 
-abbrev pub numbers_in : List ExtensionText → List ℕ
-numbers_in texts = flat_map number_in texts
+abbrev pub usage_numbers : List ExtensionText → List ℕ
+usage_numbers texts = flat_map number_in texts
 
 -- whether a bit is 1
 abbrev pub is_set : List ℕ → ℕ → Bool

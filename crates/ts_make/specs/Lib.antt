@@ -1,13 +1,11 @@
 pub mod Serial
 pub mod Description
 pub mod Times
-pub mod TimeView
 pub mod Items
 pub mod KeyUsage
 pub mod Extensions
 pub mod Told
 pub mod Made
-pub mod Writing
 pub mod Making
 pub mod Sayable
 pub mod CrlExtensions
@@ -15,3 +13,4 @@ pub mod CrlMade
 pub mod CrlMaking
 pub mod CrlDescription
 pub mod Printed
+pub mod inside

@@ -46,7 +46,7 @@ tbs_octets before after text = encode 0x30 (tbs_content before after text)
 
 -- Certificate ::= SEQUENCE { tbsCertificate, signatureAlgorithm, signatureValue BIT STRING }
 -- (4.1.1): the signature is the digest of the signer's key and all of tbsCertificate
-unfoldable pub made : List ℕ → List ℕ → CertText → List ℕ
-made before after text =
+unfoldable pub made_certificate : List ℕ → List ℕ → CertText → List ℕ
+made_certificate before after text =
     let tbs = tbs_octets before after text in
     encode 0x30 (tbs ++ (algorithm_identifier ++ bit_octets (sha256 (text.signer.now ++ tbs))))

@@ -45,13 +45,13 @@ alternative_name other = []
 abbrev pub subtree_said : NameText → GeneralSubtree
 subtree_said name = record { base = name_said name; minimum = 0 ∷ []; maximum = None }
 
-abbrev pub permitted : ExtensionText → List GeneralSubtree
-permitted (part.PermittedSubtree name) = subtree_said name ∷ []
-permitted other = []
+abbrev pub permitted_subtrees : ExtensionText → List GeneralSubtree
+permitted_subtrees (part.PermittedSubtree name) = subtree_said name ∷ []
+permitted_subtrees other = []
 
-abbrev pub excluded : ExtensionText → List GeneralSubtree
-excluded (part.ExcludedSubtree name) = subtree_said name ∷ []
-excluded other = []
+abbrev pub excluded_subtrees : ExtensionText → List GeneralSubtree
+excluded_subtrees (part.ExcludedSubtree name) = subtree_said name ∷ []
+excluded_subtrees other = []
 
 -- a list, absent where it is empty
 abbrev pub if_any : {A : Type 0} → List A → Option (List A)

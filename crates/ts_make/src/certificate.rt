@@ -6,10 +6,10 @@ ghost use Rattle.ts_cert.specs.Certificate.{Certificate};
 ghost use Rattle.ts_cert.specs.Reading.{certificate_of};
 ghost use Rattle.ts_make.specs.Description.{IsDescribed, IsSignedBy};
 ghost use Rattle.ts_make.specs.Times.{IsTimeOf};
-ghost use Rattle.ts_make.specs.TimeView.{time_octets};
-ghost use Rattle.ts_make.specs.Made.{made};
+ghost use Rattle.ts_make.specs.inside.TimeView.{time_octets};
+ghost use Rattle.ts_make.specs.Made.{made_certificate};
 ghost use Rattle.ts_make.specs.Sayable.{IsSayable, IfWritten};
-ghost use Rattle.ts_make.specs.Writing.{Writes};
+ghost use Rattle.ts_make.specs.inside.Writing.{Writes};
 ghost use Rattle.ts_make.specs.Making.{AnswersMade, IsRefusal};
 
 use crate::description::CertText;
@@ -23,14 +23,15 @@ use ts_der::tag::SEQUENCE;
 use ts_sig::{STAND_IN_ALGORITHM, digest_signature};
 
 /// What is signed, the algorithm and the signature, as one element (RFC 5280 4.1.1).
-#[tactic(auto, unfolding(crate::specs::Made::made))]
+#[tactic(auto, unfolding(crate::specs::Made::made_certificate))]
 fn write_certificate(
     alloc: Global,
     text: &CertText<'_>,
     before: &TimeText,
     after: &TimeText,
 ) -> Result<Vec<u8>, MakeFault>
-    ensures exact { Writes result (made (time_octets before.now) (time_octets after.now) text.now) }
+    ensures exact { Writes result (made_certificate (time_octets before.now) (time_octets after.now)
+        text.now) }
     ensures sayable { OnOk result (IsSayable text.now) }
 {
     let mut fields = write_tbs(alloc, text, before, after)?;
@@ -48,7 +49,7 @@ fn write_readable(
     after: &TimeText,
 ) -> Result<Vec<u8>, MakeFault>
     ensures exact { AnswersMade result
-        (made (time_octets before.now) (time_octets after.now) text.now) }
+        (made_certificate (time_octets before.now) (time_octets after.now) text.now) }
     ensures sayable { IfWritten result (IsSayable text.now) }
 {
     let octets = write_certificate(alloc, text, before, after)?;
@@ -73,7 +74,7 @@ pub fn make_cert(alloc: Global, text: &CertText<'_>) -> Result<Vec<u8>, MakeFaul
     // It is the one certificate that says the description, where a certificate may be so long.
     ensures made { (before after : List ℕ) × IsTimeOf before text.now.from
         × IsTimeOf after text.now.to
-        × AnswersMade result (made before after text.now) }
+        × AnswersMade result (made_certificate before after text.now) }
     // Reading it gives the description.
     ensures described { IfOk result
         (λ v. (c : Certificate) × (certificate_of v.items ≡ Ok c) × IsDescribed text.now c) }

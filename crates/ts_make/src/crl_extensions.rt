@@ -2,12 +2,12 @@
 
 ghost use Rattle.std.specs.Prelude.{◌≡◌, ◌++◌, true, map, OnOk};
 ghost use Rattle.std.specs.List.{flat_map};
-ghost use Rattle.ts_make.specs.Extensions.{extension_octets, sequence};
+ghost use Rattle.ts_make.specs.Extensions.{extension_octets, sequence_extension};
 ghost use Rattle.ts_make.specs.CrlExtensions.{reason_extension, number_extensions, base_extensions};
 ghost use Rattle.ts_make.specs.CrlExtensions.{uri_octets, full_name, some_reasons, scope_content};
 ghost use Rattle.ts_make.specs.CrlExtensions.{null_extension, crl_extensions, crl_field};
 ghost use Rattle.ts_make.specs.Told.{IsSmallIfAny};
-ghost use Rattle.ts_make.specs.Writing.{Appends, Writes};
+ghost use Rattle.ts_make.specs.inside.Writing.{Appends, Writes};
 
 use crate::crl_description::CrlText;
 use crate::elements::{append_element, element};
@@ -127,7 +127,7 @@ fn append_scope(
     reasons: &[u32],
 ) -> Result<(), MakeFault>
     ensures { Appends result (flat_map extension_octets
-        (sequence 28 true (scope_content uris.now reasons.now))) octets.old.items
+        (sequence_extension 28 true (scope_content uris.now reasons.now))) octets.old.items
         octets.new.items }
 {
     let content = write_scope(alloc, uris, reasons)?;

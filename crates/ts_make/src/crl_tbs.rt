@@ -4,15 +4,15 @@ ghost use Rattle.std.specs.Prelude.{◌++◌, ◌<◌, ◌^◌, OnOk};
 ghost use Rattle.std.specs.List.{flat_map};
 ghost use Rattle.ts_sig.specs.StandIn.{algorithm_identifier};
 ghost use Rattle.ts_crl.specs.declared.version.ListVersion.TheVariants.{V2};
-ghost use Rattle.ts_crl.specs.Encoding.{version_octets};
-ghost use Rattle.ts_make.specs.TimeView.{time_octets};
+ghost use Rattle.ts_crl.specs.Encoding.{crl_version_octets};
+ghost use Rattle.ts_make.specs.inside.TimeView.{time_octets};
 ghost use Rattle.ts_make.specs.Made.{name_octets};
 ghost use Rattle.ts_make.specs.CrlExtensions.{crl_field, crl_extensions};
 ghost use Rattle.ts_make.specs.CrlMade.{entry_octets, revoked_octets, crl_content, crl_tbs};
 ghost use Rattle.ts_make.specs.CrlMaking.{AreSerials, IsSayableCrl};
 ghost use Rattle.ts_make.specs.Sayable.{AreTexts};
 ghost use Rattle.ts_make.specs.Told.{IsSmallIfAny};
-ghost use Rattle.ts_make.specs.Writing.{Appends, Writes};
+ghost use Rattle.ts_make.specs.inside.Writing.{Appends, Writes};
 
 use crate::crl_description::{CrlText, EntryText};
 use crate::crl_extensions::{append_crl_extensions, append_reason};
@@ -90,7 +90,7 @@ fn append_revoked(
 
 /// The version, the algorithm and the issuer (RFC 5280 5.1.2.1 to 5.1.2.3).
 fn write_head(alloc: Global, issuer: &[RdnText<'_>]) -> Result<Vec<u8>, MakeFault>
-    ensures exact { Writes result (version_octets V2
+    ensures exact { Writes result (crl_version_octets V2
         ++ (algorithm_identifier ++ name_octets issuer.now)) }
     ensures texts { OnOk result (AreTexts issuer.now) }
 {

@@ -2,7 +2,7 @@
 
 ghost use Rattle.std.specs.Prelude.{◌≢◌, ◌%◌, ◌∷◌, ◌++◌};
 ghost use Rattle.ts_der.specs.Element.{encode};
-ghost use Rattle.ts_make.specs.Writing.{Appends, Writes};
+ghost use Rattle.ts_make.specs.inside.Writing.{Appends, Writes};
 
 use crate::fault::MakeFault;
 use std::alloc::Global;

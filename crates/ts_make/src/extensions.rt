@@ -3,10 +3,11 @@
 ghost use Rattle.std.specs.Prelude.{◌++◌, ◌≢◌, ◌%◌};
 ghost use Rattle.std.specs.List.{flat_map};
 ghost use Rattle.ts_make.specs.Items.{items_of};
-ghost use Rattle.ts_make.specs.Extensions.{extension_octets, tagged_if_any, sequence};
+ghost use Rattle.ts_make.specs.Extensions.{extension_octets, tagged_if_any, sequence_extension};
 ghost use Rattle.ts_make.specs.Extensions.{constraints_content, policy_constraints_content};
-ghost use Rattle.ts_make.specs.Extensions.{of_kind, alone, described_extensions, field_octets};
-ghost use Rattle.ts_make.specs.Writing.{Appends, Writes};
+ghost use Rattle.ts_make.specs.Extensions.{of_kind, part_extensions, described_extensions};
+ghost use Rattle.ts_make.specs.Extensions.{field_octets};
+ghost use Rattle.ts_make.specs.inside.Writing.{Appends, Writes};
 
 use crate::description::ExtensionText;
 use crate::elements::{EXTENSIONS, append_element, element};
@@ -26,7 +27,8 @@ pub(crate) fn append_sequence(
     critical: bool,
     content: &[u8],
 ) -> Result<(), MakeFault>
-    ensures { Appends result (flat_map extension_octets (sequence arc critical content.now))
+    ensures { Appends result (flat_map extension_octets
+        (sequence_extension arc critical content.now))
         octets.old.items octets.new.items }
 {
     if content.is_empty() {
@@ -47,7 +49,8 @@ fn append_list(
     parts: &[ExtensionText<'_>],
 ) -> Result<(), MakeFault>
     ensures { Appends result (flat_map extension_octets
-        (sequence arc critical (items_of list parts.now))) octets.old.items octets.new.items }
+        (sequence_extension arc critical (items_of list parts.now))) octets.old.items
+        octets.new.items }
 {
     let mut items = Vec::new(alloc);
     append_items(alloc, &mut items, list, parts)?;
@@ -116,7 +119,7 @@ fn append_each(
     parts: &[ExtensionText<'_>],
 ) -> Result<(), MakeFault>
     ensures { Appends result (flat_map
-        (λ part. flat_map extension_octets (alone kind part)) parts.now) octets.old.items
+        (λ part. flat_map extension_octets (part_extensions kind part)) parts.now) octets.old.items
         octets.new.items }
 {
     for part in parts {

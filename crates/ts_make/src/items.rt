@@ -5,7 +5,7 @@ ghost use Rattle.std.specs.List.{flat_map};
 ghost use Rattle.ts_der.specs.Element.{encode};
 ghost use Rattle.ts_make.specs.Items.{general_name, general_subtree, distribution_point};
 ghost use Rattle.ts_make.specs.Items.{policy_information, policy_mapping, item, items_of};
-ghost use Rattle.ts_make.specs.Writing.{Appends};
+ghost use Rattle.ts_make.specs.inside.Writing.{Appends};
 
 use crate::description::{ExtensionText, NameText};
 use crate::elements::{append_element, element};

@@ -1,7 +1,7 @@
 //! The subject's public key.
 
 ghost use Rattle.ts_make.specs.Made.{key_octets};
-ghost use Rattle.ts_make.specs.Writing.{Appends};
+ghost use Rattle.ts_make.specs.inside.Writing.{Appends};
 
 use crate::elements::{append, append_bits, append_element};
 use crate::fault::MakeFault;

@@ -4,9 +4,9 @@ ghost use Rattle.std.specs.Prelude.{◌≡◌, ℕ, ◌+◌, ◌*◌, ◌/◌, �
 ghost use Rattle.std.specs.Prelude.{length, map, slice_index_or, false};
 ghost use Rattle.std.specs.List.{flat_map, range_with_len, All};
 ghost use Rattle.ts_make.specs.Extensions.{extension_octets, key_usage};
-ghost use Rattle.ts_make.specs.KeyUsage.{numbers_in, is_set, last_set, weight, octet_from};
+ghost use Rattle.ts_make.specs.KeyUsage.{usage_numbers, is_set, last_set, weight, octet_from};
 ghost use Rattle.ts_make.specs.KeyUsage.{usage_content, Collects};
-ghost use Rattle.ts_make.specs.Writing.{Appends, Writes};
+ghost use Rattle.ts_make.specs.inside.Writing.{Appends, Writes};
 
 use crate::description::ExtensionText;
 use crate::elements::element;
@@ -17,7 +17,7 @@ use ts_der::tag::BIT_STRING;
 
 /// The numbers of the bits that the parts set.
 fn numbers(alloc: Global, parts: &[ExtensionText<'_>]) -> Result<Vec<u32>, MakeFault>
-    ensures { Collects result (numbers_in parts.now) }
+    ensures { Collects result (usage_numbers parts.now) }
 {
     let mut numbers = Vec::new(alloc);
     for part in parts {
@@ -120,7 +120,7 @@ pub(crate) fn append_key_usage(
     octets: &mut Vec<u8>,
     parts: &[ExtensionText<'_>],
 ) -> Result<(), MakeFault>
-    ensures { Appends result (flat_map extension_octets (key_usage (numbers_in parts.now)))
+    ensures { Appends result (flat_map extension_octets (key_usage (usage_numbers parts.now)))
         octets.old.items octets.new.items }
 {
     let numbers = numbers(alloc, parts)?;

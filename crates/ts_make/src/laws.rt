@@ -21,7 +21,8 @@ ghost use Rattle.ts_make.specs.Extensions.{policy_constraints_content};
 ghost use Rattle.ts_make.specs.Items.{items_of};
 ghost use Rattle.ts_make.specs.KeyUsage.{is_set, usage_bits, usage_content};
 ghost use Rattle.ts_ext.specs.NamedBits.{bit};
-ghost use Rattle.ts_make.specs.Told.{AreAscii, alternative_name, permitted, excluded, if_any};
+ghost use Rattle.ts_make.specs.Told.{AreAscii, alternative_name, permitted_subtrees};
+ghost use Rattle.ts_make.specs.Told.{excluded_subtrees, if_any};
 ghost use Rattle.ts_make.specs.Told.{point, IsSmallIfAny, list_of, policy, mapping, purpose};
 ghost use Rattle.ts_make.specs.Told.{explicit_policy, inhibited_mapping};
 ghost use Rattle.ts_make.specs.Serial.{serial_content};
@@ -122,8 +123,8 @@ pub fn name_constraints()
         → length (constraints_content texts) ≤ 4194304
         → IsExt (Some known.NameConstraints) (encode 0x30 (constraints_content texts))
         (nameConstraints (record {
-          permittedSubtrees = if_any (flat_map permitted texts);
-          excludedSubtrees = if_any (flat_map excluded texts);
+          permittedSubtrees = if_any (flat_map permitted_subtrees texts);
+          excludedSubtrees = if_any (flat_map excluded_subtrees texts);
         })) }
 {}
 

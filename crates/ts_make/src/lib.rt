@@ -14,23 +14,24 @@
 //!
 //! - `make_cert`: the octets are the one certificate that says the description, where that has at
 //!   most 65,536 octets and can be read; `TooLong` exactly above that; `Unreadable` exactly where
-//!   reading gives that fault (`made`); reading them gives the description: version 3, the serial
-//!   number, both names, both moments, the key, no unique identifiers, and of each extension the
-//!   object identifier, whether it is critical, and the octets of its value (`described`); the
-//!   stand-in takes the signature for that of the octets that are signed, under the signer's key
-//!   (`signed`); what is made has moments of the years 0 to 9999; `Unreadable` is only such a
-//!   moment, or extensions that no certificate may have: one occurs twice, or its value is not one
-//!   that it has (`years`, `refused`).
+//!   reading gives that fault (`made_certificate`); reading them gives the description: version 3,
+//!   the serial number, both names, both moments, the key, no unique identifiers, and of each
+//!   extension the object identifier, whether it is critical, and the octets of its value
+//!   (`described`); the stand-in takes the signature for that of the octets that are signed, under
+//!   the signer's key (`signed`); what is made has moments of the years 0 to 9999; `Unreadable` is
+//!   only such a moment, or extensions that no certificate may have: one occurs twice, or its value
+//!   is not one that it has (`years`, `refused`).
 //! - `make_crl`: the octets are the one CRL that says the description, where that has at most
 //!   4,194,304 octets and breaks no rule that has a place; `TooLong` exactly above that;
-//!   `Unreadable` exactly where reading gives such a fault (`made`); they have the shape of the CRL
-//!   that the description says: version 2, the issuer, both moments, each entry with its serial
-//!   number, the date of thisUpdate and its reason, the number, the base number, the scope and the
-//!   other extensions; reading gives that CRL, or refuses it for its first critical extension that
-//!   is not processed, or, where there is none, as a delta CRL without a number, and for nothing
-//!   else (`described`); the stand-in takes the signature for that of the octets that are signed,
-//!   under the signer's key (`signed`); what is made has moments of the years 0 to 9999;
-//!   `Unreadable` is only such a moment, or extensions that no CRL may have (`years`, `refused`).
+//!   `Unreadable` exactly where reading gives such a fault (`made_certificate`); they have the
+//!   shape of the CRL that the description says: version 2, the issuer, both moments, each entry
+//!   with its serial number, the date of thisUpdate and its reason, the number, the base number,
+//!   the scope and the other extensions; reading gives that CRL, or refuses it for its first
+//!   critical extension that is not processed, or, where there is none, as a delta CRL without a
+//!   number, and for nothing else (`described`); the stand-in takes the signature for that of the
+//!   octets that are signed, under the signer's key (`signed`); what is made has moments of the
+//!   years 0 to 9999; `Unreadable` is only such a moment, or extensions that no CRL may have
+//!   (`years`, `refused`).
 //! - `Display` of `MakeFault`: what is printed is `Memory`, `TooLong`, or `Unreadable(RULE at N)`
 //!   with the name of the rule and its place in decimal (`output`).
 //! - laws (`laws`): a moment is written in one way: a UTCTime from 1950 to 2049, else a

@@ -6,7 +6,7 @@ ghost use Rattle.ts_name.specs.NameEncoding.{encoded_rdn};
 ghost use Rattle.ts_make.specs.Description.{rdn_in};
 ghost use Rattle.ts_make.specs.Made.{name_octets};
 ghost use Rattle.ts_make.specs.Sayable.{AreTexts};
-ghost use Rattle.ts_make.specs.Writing.{Appends};
+ghost use Rattle.ts_make.specs.inside.Writing.{Appends};
 
 use crate::description::RdnText;
 use crate::elements::{append_element, element};

@@ -3,7 +3,7 @@
 ghost use Rattle.std.specs.Prelude.{◌≢◌, ◌%◌};
 ghost use Rattle.ts_der.specs.Element.{encode};
 ghost use Rattle.ts_make.specs.Serial.{serial_content};
-ghost use Rattle.ts_make.specs.Writing.{Appends};
+ghost use Rattle.ts_make.specs.inside.Writing.{Appends};
 
 use crate::elements::append_element;
 use crate::fault::MakeFault;

@@ -2,9 +2,10 @@
 
 ghost use Rattle.std.specs.Prelude.{[], ◌∷◌, ◌++◌};
 ghost use Rattle.std.specs.List.{flat_map};
-ghost use Rattle.ts_make.specs.Extensions.{extension, extension_octets, critical_octets, alone};
+ghost use Rattle.ts_make.specs.Extensions.{extension, extension_octets, critical_octets};
+ghost use Rattle.ts_make.specs.Extensions.{part_extensions};
 ghost use Rattle.ts_make.specs.Extensions.{basic_constraints_value, path_length};
-ghost use Rattle.ts_make.specs.Writing.{Appends, Writes};
+ghost use Rattle.ts_make.specs.inside.Writing.{Appends, Writes};
 
 use crate::description::ExtensionText;
 use crate::elements::{append, append_element, element};
@@ -78,7 +79,8 @@ pub(crate) fn append_alone(
     kind: Kind,
     part: &ExtensionText<'_>,
 ) -> Result<(), MakeFault>
-    ensures { Appends result (flat_map extension_octets (alone kind part.now)) octets.old.items
+    ensures { Appends result (flat_map extension_octets (part_extensions kind part.now))
+        octets.old.items
         octets.new.items }
 {
     match (kind, part) {

@@ -1,10 +1,10 @@
 //! What is signed.
 
 ghost use Rattle.std.specs.Prelude.{OnOk};
-ghost use Rattle.ts_make.specs.TimeView.{time_octets};
+ghost use Rattle.ts_make.specs.inside.TimeView.{time_octets};
 ghost use Rattle.ts_make.specs.Made.{tbs_content, tbs_octets};
 ghost use Rattle.ts_make.specs.Sayable.{IsSayable};
-ghost use Rattle.ts_make.specs.Writing.{Writes};
+ghost use Rattle.ts_make.specs.inside.Writing.{Writes};
 
 use crate::description::CertText;
 use crate::elements::{append, element};

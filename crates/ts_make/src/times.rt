@@ -3,8 +3,8 @@
 ghost use Rattle.std.specs.Prelude.{◌≡◌, ◌++◌};
 ghost use Rattle.ts_der.specs.Element.{encode};
 ghost use Rattle.ts_make.specs.Times.{IsTimeOf};
-ghost use Rattle.ts_make.specs.TimeView.{time_octets};
-ghost use Rattle.ts_make.specs.Writing.{Appends};
+ghost use Rattle.ts_make.specs.inside.TimeView.{time_octets};
+ghost use Rattle.ts_make.specs.inside.Writing.{Appends};
 
 use crate::elements::append_element;
 use crate::fault::MakeFault;

@@ -7,7 +7,7 @@ use Rattle.ts_codec.proofs.Rows.{recoded, and_part, kind_part, case, bare_case, 
 use Rattle.ts_codec.proofs.Lists.{blob32_part}
 use Rattle.ts_sig.specs.Key.{Key}
 use Rattle.ts_check.specs.Native.{native_accepts}
-use Rattle.ts_memo.specs.Memo.{parameters_octets, asked, IsShort, Fits, IsRight}
+use Rattle.ts_memo.specs.inside.Memo.{parameters_octets, question_octets, IsShort, Fits, IsRight}
 
 parameters_at : Reader (Option (List ℕ))
 parameters_at = by_kind ((0, λ o. Some (None, o)) ∷ (1, blob32_at into Some) ∷ [])
@@ -35,7 +35,7 @@ parameters_part = recoded (kind_part {kind_of = flag_of} {encode = after_flag} {
     same None = refl
     same (Some p) = refl
 
--- a question's parts in a row: those of `asked`
+-- a question's parts in a row: those of `question_octets`
 abbrev Row : Type 0
 Row = List ℕ × (List ℕ × (Option (List ℕ) × (List ℕ × (List ℕ × List ℕ))))
 
@@ -52,7 +52,7 @@ row_part = and_part blob32_part (and_part blob32_part (and_part parameters_part 
 
 -- an answer to one question is the answer to whatever question has its octets
 pub right : (octets : List ℕ) (good : Bool) (algorithm : List ℕ) (key : Key) (signed signature : List ℕ)
-    → Fits algorithm key signed signature → octets ≡ asked algorithm key signed signature
+    → Fits algorithm key signed signature → octets ≡ question_octets algorithm key signed signature
     → good ≡ native_accepts algorithm key signed signature → IsRight octets good
 right octets good algorithm key signed signature fit is answer a k s g fits has =
     answer ∙ ap accepts (one row_part (row algorithm key signed signature) (row a k s g)

@@ -1,2 +1,2 @@
-pub mod Memo
 pub mod Served
+pub mod inside

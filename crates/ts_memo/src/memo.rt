@@ -4,7 +4,8 @@ ghost use Rattle.std.specs.Prelude.{◌≡◌, ◌<◌, ◌^◌, ◌++◌, IfSom
 ghost use Rattle.std.specs.Option.{option_copied};
 ghost use Rattle.ts_sig.specs.Key.{key_of};
 ghost use Rattle.ts_check.specs.Native.{native_accepts};
-ghost use Rattle.ts_memo.specs.Memo.{Fits, IsRight, IsShort, asked, parameters_octets};
+ghost use Rattle.ts_memo.specs.inside.Memo.{Fits, IsRight, IsShort, question_octets};
+ghost use Rattle.ts_memo.specs.inside.Memo.{parameters_octets};
 
 use lru::LruCache;
 use std::alloc::{AllocError, Global};
@@ -27,7 +28,7 @@ const ROOM: usize = 64;
 
 /// The octets of what was asked, and the answer.
 #[derive(Drop)]
-pub(crate) struct Kept {
+pub(crate) struct KeptAnswer {
     octets: Vec<u8>,
     good: bool,
 }
@@ -37,11 +38,11 @@ pub(crate) struct Kept {
 #[derive(Drop)]
 pub(crate) struct Memo {
     alloc: Global,
-    answers: LruCache<Vec<u8>, Kept>,
+    answers: LruCache<Vec<u8>, KeptAnswer>,
 }
 
 impl Model for Memo {
-    ghost use Rattle.ts_memo.specs.Memo.{AreRight};
+    ghost use Rattle.ts_memo.specs.inside.Memo.{AreRight};
 
     ghost Value = { Unit {0} };
 
@@ -96,7 +97,7 @@ fn push_question(
 ) -> Result<(), AllocError>
     requires { Fits algorithm.now (key_of key.now) signed.now.octets.now signature.now }
     ensures { OnOk result (out.new.items ≡ out.old.items
-        ++ asked algorithm.now (key_of key.now) signed.now.octets.now signature.now) }
+        ++ question_octets algorithm.now (key_of key.now) signed.now.octets.now signature.now) }
 {
     push_blob32(out, algorithm)?;
     push_blob32(out, key.algorithm)?;
@@ -117,7 +118,7 @@ fn octets_of(
     ensures fits { IsSome result
         → Fits algorithm.now (key_of key.now) signed.now.octets.now signature.now }
     ensures octets { IfSome result (λ octets. octets.items
-        ≡ asked algorithm.now (key_of key.now) signed.now.octets.now signature.now) }
+        ≡ question_octets algorithm.now (key_of key.now) signed.now.octets.now signature.now) }
 {
     let size = size_of(algorithm, key, signed, signature);
     if size > MAX_OCTETS {
@@ -159,7 +160,7 @@ impl Memo {
         let Ok(signature) = Vec::from_slice(self.alloc, signature) else {
             return;
         };
-        let _before = self.answers.put(signature, Kept { octets, good });
+        let _before = self.answers.put(signature, KeptAnswer { octets, good });
     }
 
     /// Whether a signature is good: the answer that is kept, or else that of the native check.

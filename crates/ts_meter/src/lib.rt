@@ -7,8 +7,8 @@
 //! let syncs = meter.syncs();               // 1
 //! ```
 //!
-//! - [`Metered`]: a disk that does what the disk within does: its meaning is that disk's, and each
-//!   call has the clauses of `Disk`.
+//! - [`MeteredDisk`]: a disk that does what the disk within does: its meaning is that disk's, and
+//!   each call has the clauses of `Disk`.
 //!
 //! # Not promised
 //!
@@ -19,4 +19,4 @@ mod meter;
 mod metered;
 
 pub use meter::Meter;
-pub use metered::Metered;
+pub use metered::MeteredDisk;

@@ -2,7 +2,7 @@
 
 ghost use Rattle.std.specs.Prelude.{◌≡◌, ◌≤◌, length, IfOk, OnOk, IfErr};
 ghost use Rattle.ts_disk.specs.declared.fault.DiskFault.TheVariants.{Failed};
-ghost use Rattle.ts_disk.specs.Disk.{Call, HasCause, IsDurable, Same, Torn, written};
+ghost use Rattle.ts_disk.specs.Disk.{Call, HasCause, IsDurable, Same, Torn, overwrite};
 
 use crate::meter::Meter;
 use std::alloc::Global;
@@ -10,21 +10,21 @@ use ts_disk::{Disk, DiskFault};
 
 /// A disk whose writes and syncs are counted.
 #[derive(Drop)]
-pub struct Metered<'a, D> {
+pub struct MeteredDisk<'a, D> {
     disk: D,
     meter: &'a Meter,
 }
 
-impl<'a, D: Disk> Metered<'a, D> {
+impl<'a, D: Disk> MeteredDisk<'a, D> {
     /// This disk, whose calls that meter counts.
-    pub fn new(disk: D, meter: &'a Meter) -> Metered<'a, D>
+    pub fn new(disk: D, meter: &'a Meter) -> MeteredDisk<'a, D>
         ensures { result.disk ≡ disk }
     {
-        Metered { disk, meter }
+        MeteredDisk { disk, meter }
     }
 }
 
-impl<'a, D: Disk> Disk for Metered<'a, D> {
+impl<'a, D: Disk> Disk for MeteredDisk<'a, D> {
     ghost state = { λ m. D.state m.disk };
 
     ghost lawful = { λ m. D.lawful m.disk };

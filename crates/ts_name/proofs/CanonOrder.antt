@@ -11,8 +11,8 @@ use Rattle.std.proofs.lemmas.List.{length-map, drop_all}
 use Rattle.std.proofs.lemmas.List.Sorted.{length_permutation, IsPermutation-map, sum_by-IsPermutation}
 use Rattle.std.proofs.lemmas.List.Elements.{All-nil, All-cons}
 use Rattle.ts_name.specs.declared.attribute.Attribute.{Attribute}
-use Rattle.ts_name.specs.Canon.{Attr, CanonAttr, is_text, folded, canon_attr, canon_rdn, compare_attrs, at_most, insert_attr, sort_attrs, is_same, count_of}
-use Rattle.ts_name.specs.Sorted.{canon_of, AreSorted}
+use Rattle.ts_name.specs.Canon.{Attr, CanonAttr, is_text, canonical_text, canon_attr, canon_rdn, compare_attrs, attr_at_most, insert_attr, sort_attrs, is_same, count_of}
+use Rattle.ts_name.specs.inside.Sorted.{canon_of, AreSorted}
 use Rattle.ts_name.specs.View.{attr_of}
 use Rattle.ts_name.proofs.Order.{total, counts_same}
 
@@ -20,15 +20,15 @@ use Rattle.ts_name.proofs.Order.{total, counts_same}
 
 -- an attribute in canonical form, whether it is text
 abbrev canon_by : Bool → Attr → CanonAttr
-canon_by t a = cond {A = CanonAttr} t (record { kind = a.kind; tag = 0x0C; value = folded a.value }) (record { kind = a.kind; tag = a.tag; value = a.value })
+canon_by t a = cond {A = CanonAttr} t (record { kind = a.kind; tag = 0x0C; value = canonical_text a.value }) (record { kind = a.kind; tag = a.tag; value = a.value })
 
 pub text-values : (a b : Attr) → true ≡ is_text a.tag → (canon_attr a).tag ≡ (canon_attr b).tag
-    → slice_cmp nat_cmp (folded a.value) (folded b.value) ≡ slice_cmp nat_cmp (canon_attr a).value (canon_attr b).value
+    → slice_cmp nat_cmp (canonical_text a.value) (canonical_text b.value) ≡ slice_cmp nat_cmp (canon_attr a).value (canon_attr b).value
 unfolding canon_attr
 text-values a b text tags = by_tags (is_text a.tag) (sym text) (is_text b.tag) refl tags
   where
     by_tags : (t : Bool) → t ≡ true → (u : Bool) → is_text b.tag ≡ u → (canon_by t a).tag ≡ (canon_by u b).tag
-        → slice_cmp nat_cmp (folded a.value) (folded b.value) ≡ slice_cmp nat_cmp (canon_by t a).value (canon_by u b).value
+        → slice_cmp nat_cmp (canonical_text a.value) (canonical_text b.value) ≡ slice_cmp nat_cmp (canon_by t a).value (canon_by u b).value
     by_tags false e u f g = absurd (false≢true e)
     by_tags true e true f g = refl
     by_tags true e false f g = absurd (false≢true (sym f ∙ ap is_text (sym g)))
@@ -73,13 +73,19 @@ kinds-are a b = ap (λ (k : List ℕ). slice_cmp nat_cmp k b.kind) (sym (kind-is
 
 pub by-kind : (a b : Attr) (k : Ordering) → k ≡ slice_cmp nat_cmp a.kind b.kind → true ≡ Decides k → k ≡ compare_attrs (canon_attr a) (canon_attr b)
 unfolding compare_attrs
-by-kind a b k e d = first-decides k _ d ∙ ap (λ (o : Ordering). ordering_then o (ordering_then (nat_cmp (canon_attr a).tag (canon_attr b).tag) (slice_cmp nat_cmp (canon_attr a).value (canon_attr b).value))) (e ∙ kinds-are a b)
+by-kind a b k e d = first-decides k _ d
+    ∙ ap (λ (o : Ordering). ordering_then o
+    (ordering_then (nat_cmp (canon_attr a).tag (canon_attr b).tag)
+    (slice_cmp nat_cmp (canon_attr a).value (canon_attr b).value))) (e ∙ kinds-are a b)
 
 -- types that are equal
 same-kinds : (a b : Attr) (k : Ordering) → k ≡ slice_cmp nat_cmp a.kind b.kind → false ≡ Decides k
     → ordering_then (nat_cmp (canon_attr a).tag (canon_attr b).tag) (slice_cmp nat_cmp (canon_attr a).value (canon_attr b).value) ≡ compare_attrs (canon_attr a) (canon_attr b)
 unfolding compare_attrs
-same-kinds a b k e d = second-decides k _ d ∙ ap (λ (o : Ordering). ordering_then o (ordering_then (nat_cmp (canon_attr a).tag (canon_attr b).tag) (slice_cmp nat_cmp (canon_attr a).value (canon_attr b).value))) (e ∙ kinds-are a b)
+same-kinds a b k e d = second-decides k _ d
+    ∙ ap (λ (o : Ordering). ordering_then o
+    (ordering_then (nat_cmp (canon_attr a).tag (canon_attr b).tag)
+    (slice_cmp nat_cmp (canon_attr a).value (canon_attr b).value))) (e ∙ kinds-are a b)
 
 pub by-tag : (a b : Attr) (k t : Ordering) → k ≡ slice_cmp nat_cmp a.kind b.kind → false ≡ Decides k
     → t ≡ nat_cmp (canon_attr a).tag (canon_attr b).tag → true ≡ Decides t → t ≡ compare_attrs (canon_attr a) (canon_attr b)
@@ -97,12 +103,12 @@ by-value a b k t e d f g =
 abbrev pub Ascends : List CanonAttr → Type 0
 Ascends [] = Unit {0}
 Ascends (a ∷ []) = Unit {0}
-Ascends (a ∷ b ∷ rest) = (at_most a b ≡ true) × Ascends (b ∷ rest)
+Ascends (a ∷ b ∷ rest) = (attr_at_most a b ≡ true) × Ascends (b ∷ rest)
 
-not_less : (a b : CanonAttr) → is_lt (compare_attrs b a) ≡ false → at_most a b ≡ true
+not_less : (a b : CanonAttr) → is_lt (compare_attrs b a) ≡ false → attr_at_most a b ≡ true
 not_less a b e = by_order (compare_attrs b a) refl e
   where
-    by_order : (o : Ordering) → compare_attrs b a ≡ o → is_lt o ≡ false → at_most a b ≡ true
+    by_order : (o : Ordering) → compare_attrs b a ≡ o → is_lt o ≡ false → attr_at_most a b ≡ true
     by_order Less p e = absurd (true≢false e)
     by_order Equal p e = ap is_le (total.antisymm a b ∙ ap ordering_reverse p)
     by_order Greater p e = ap is_le (total.antisymm a b ∙ ap ordering_reverse p)
@@ -156,7 +162,9 @@ sorted-is xs ys p s = sorted-form canon_of _ (λ x y. refl) xs ys p s ∙ ap sor
 from : (a : List Attribute) (i : ℕ) (d : Attribute) → i < length a → map canon_of (drop i a) ≡ canon_of (get_or a i d) ∷ map canon_of (drop (i + 1) a)
 from a i d h = ap (map canon_of) (drop-cons a i d h) ∙ ap (λ (n : ℕ). canon_of (get_or a i d) ∷ map canon_of (drop n a)) (sym (add-one i))
 
-pub items-same : (a b : List Attribute) (i : ℕ) (d e : Attribute) → i < length a → length a ≡ length b → map canon_of (drop i a) ≡ map canon_of (drop i b) → canon_of (get_or a i d) ≡ canon_of (get_or b i e)
+pub items-same : (a b : List Attribute) (i : ℕ) (d e : Attribute) → i < length a
+    → length a ≡ length b → map canon_of (drop i a) ≡ map canon_of (drop i b)
+    → canon_of (get_or a i d) ≡ canon_of (get_or b i e)
 items-same a b i d e h n same = let other : i < length b = omega arith in let x = from a i d h in let y = from b i e other in cc
 
 pub rest-same : (a b : List Attribute) (i : ℕ) (d e : Attribute) → i < length a → length a ≡ length b → canon_of (get_or a i d) ≡ canon_of (get_or b i e)

@@ -51,9 +51,14 @@ unfolding canon_rdn
 canon-none = refl
 
 -- two lists with one attribute more, which is one in canonical form
-pub order-more : (front other : List Attr) (x y : Attr) → map canon_attr front ≡ map canon_attr other → canon_attr x ≡ canon_attr y → map canon_attr (front ++ x ∷ []) ≡ map canon_attr (other ++ y ∷ [])
+pub order-more : (front other : List Attr) (x y : Attr)
+    → map canon_attr front ≡ map canon_attr other → canon_attr x ≡ canon_attr y
+    → map canon_attr (front ++ x ∷ []) ≡ map canon_attr (other ++ y ∷ [])
 order-more front other x y e one =
-    map-append canon_attr front (x ∷ []) ∙ (ap (λ (xs : List CanonAttr). xs ++ canon_attr x ∷ []) e ∙ (ap (λ (z : CanonAttr). map canon_attr other ++ z ∷ []) one ∙ sym (map-append canon_attr other (y ∷ []))))
+    map-append canon_attr front (x ∷ [])
+    ∙ (ap (λ (xs : List CanonAttr). xs ++ canon_attr x ∷ []) e
+    ∙ (ap (λ (z : CanonAttr). map canon_attr other ++ z ∷ []) one
+    ∙ sym (map-append canon_attr other (y ∷ []))))
 
 -- lists that are one item by item are one as sets
 pub one-in-order : (xs ys : List Attr) → map canon_attr xs ≡ map canon_attr ys → canon_rdn xs ≡ canon_rdn ys

@@ -10,7 +10,7 @@ use Rattle.ts_der.specs.Answer.{◌>>=◌}
 use Rattle.ts_der.specs.Rules.{Rule, first_broken, value_unless}
 use Rattle.ts_der.specs.Element.{Tlv, inside}
 use Rattle.ts_der.specs.ObjectIdentifier.{is_oid, oid_rules}
-use Rattle.ts_der.specs.Reading.{located, value_at, end_at}
+use Rattle.ts_der.specs.Reading.{at_element, value_at, end_at}
 use Rattle.ts_der.specs.Text.{is_ascii, ascii_rules}
 use Rattle.ts_der.proofs.Laws.{bind_ok, ok_is}
 use Rattle.ts_shape.specs.declared.fault.CertFault.{CertFault}
@@ -20,7 +20,10 @@ use Rattle.ts_shape.specs.Fields.{Within}
 use Rattle.ts_name.specs.Names.{name_at}
 use Rattle.ts_name.specs.NameEncoding.{IsName}
 use Rattle.ts_shape.specs.Items.{each}
-use Rattle.ts_name.specs.General.{GeneralName, otherName, rfc822Name, dNSName, x400Address, directoryName, ediPartyName, uniformResourceIdentifier, iPAddress, registeredID, IsForm, IsGeneralName, directory_of, general_of, general_at, has_range_length}
+use Rattle.ts_name.specs.General.{GeneralName, otherName, rfc822Name, dNSName, x400Address}
+use Rattle.ts_name.specs.General.{directoryName, ediPartyName, uniformResourceIdentifier, iPAddress}
+use Rattle.ts_name.specs.General.{registeredID, IsForm, IsGeneralName, directory_of, general_of}
+use Rattle.ts_name.specs.General.{general_at, has_range_length}
 use Rattle.ts_name.specs.GeneralTable.{general_name}
 use Rattle.ts_name.specs.NameRows.{name}
 use Rattle.ts_shape.specs.Shape.{nothing, plain, ◌then◌, ◌or_else◌, row_fault, judge, der_rules, no_rules}
@@ -53,11 +56,13 @@ directory-again e rdns is =
 -- ---- what is read is encoded so
 
 -- octets that a form keeps as they are
-kept-found : (form : List ℕ → GeneralName) (content : List ℕ) (P : GeneralName → Type 0) → P (form content) → (x : GeneralName) → (let r : Result GeneralName Fault = Ok (form content) in r ≡ Ok x) → P x
+kept-found : (form : List ℕ → GeneralName) (content : List ℕ) (P : GeneralName → Type 0)
+    → P (form content) → (x : GeneralName)
+    → (let r : Result GeneralName Fault = Ok (form content) in r ≡ Ok x) → P x
 kept-found form content P p x read = subst P (ok_is {E = Fault} (form content) x read) p
 
 -- octets that meet a test
-tested : (kind : DerFault) (b : Bool) (at : ℕ) (x y : List ℕ) → located at (value_unless (cond (not b) (Some kind) None) x) ≡ Ok y → (x ≡ y) × (b ≡ true)
+tested : (kind : DerFault) (b : Bool) (at : ℕ) (x y : List ℕ) → at_element at (value_unless (cond (not b) (Some kind) None) x) ≡ Ok y → (x ≡ y) × (b ≡ true)
 tested kind true at x y e = (ok_is {E = Fault} x y e, refl)
 tested kind false at x y e = absurd cc
 
@@ -127,7 +132,11 @@ formed-judged : (rules : List Rule) (form : List ℕ → GeneralName) (e : Tlv)
     → Judged (der (value_at rules (λ c. c) e >>= λ text. Ok (form text))) (option_map (breaks e.at) (der_rules rules e.content)) (λ x. Unit {0})
 formed-judged rules form e = by_rules (first_broken rules e.content)
   where
-    by_rules : (o : Option DerFault) → Judged (der (located e.at (value_unless o e.content) >>= λ text. Ok (form text))) (option_map (breaks e.at) (option_map Rattle.ts_shape.specs.declared.fault.CertRule.TheVariants.Der o)) (λ x. Unit {0})
+    by_rules : (o : Option DerFault)
+        → Judged (der (at_element e.at (value_unless o e.content) >>= λ text. Ok (form text)))
+        (option_map (breaks e.at)
+        (option_map Rattle.ts_shape.specs.declared.fault.CertRule.TheVariants.Der o))
+        (λ x. Unit {0})
     by_rules None = (refl, tt)
     by_rules (Some k) = refl
 

@@ -36,7 +36,10 @@ goes all front rest x e = e ∙ sym (append_assoc front (x ∷ []) rest)
 pub count-more : (z : CanonAttr) (front : List Attr) (x : Attr) → count_of z (map canon_attr (front ++ x ∷ [])) ≡ count_of z (map canon_attr front) + cond (is_same z (canon_attr x)) 1 0
 count-more z front x =
     ap (λ (xs : List CanonAttr). count_by (is_same z) xs) (map_append front x)
-    ∙ (sum_by-append (λ y. cond (is_same z y) 1 0) (map canon_attr front) (canon_attr x ∷ []) ∙ ap (λ n. count_by (is_same z) (map canon_attr front) + n) (sum_by-cons (λ y. cond (is_same z y) 1 0) (canon_attr x) [] ∙ zero (cond (is_same z (canon_attr x)) 1 0)))
+    ∙ (sum_by-append (λ y. cond (is_same z y) 1 0) (map canon_attr front) (canon_attr x ∷ [])
+    ∙ ap (λ n. count_by (is_same z) (map canon_attr front) + n)
+    (sum_by-cons (λ y. cond (is_same z y) 1 0) (canon_attr x) []
+    ∙ zero (cond (is_same z (canon_attr x)) 1 0)))
   where
     map_append : (front : List Attr) (x : Attr) → map canon_attr (front ++ x ∷ []) ≡ map canon_attr front ++ canon_attr x ∷ []
     map_append [] x = refl

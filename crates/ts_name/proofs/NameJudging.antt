@@ -9,7 +9,7 @@ use Rattle.ts_der.specs.Answer.{◌>>=◌, Answers, refusal}
 use Rattle.ts_der.specs.Rules.{Rule, first_broken, value_unless}
 use Rattle.ts_der.specs.Element.{Place, Tlv, inside}
 use Rattle.ts_der.specs.Header.{header_rules}
-use Rattle.ts_der.specs.Reading.{unless, fault_at, is_end, element_of, behind, next_at, element_at, value_at, end_at, many_from, many, located}
+use Rattle.ts_der.specs.Reading.{unless, fault_at, is_end, element_of, behind, next_at, element_at, value_at, end_at, many_from, many, at_element}
 use Rattle.ts_der.specs.Text.{utf8_rules, ascii_rules}
 use Rattle.ts_der.specs.SetOf.{ascends, order_at, set_of_at}
 use Rattle.ts_der.specs.Integer.{integer_rules}
@@ -36,7 +36,9 @@ text-judged e = by_tag (eqb e.tag 0x0C) (eqb e.tag 0x13) (eqb e.tag 0x16)
 
     by_tag : (a b c : Bool)
         → Judged (der (value_at (cond a utf8_rules (cond (b || c) ascii_rules [])) (λ c. c) e))
-        (cond a (option_map (breaks e.at) (der_rules utf8_rules e.content)) (cond b (option_map (breaks e.at) (der_rules ascii_rules e.content)) (cond c (option_map (breaks e.at) (der_rules ascii_rules e.content)) None)))
+        (cond a (option_map (breaks e.at) (der_rules utf8_rules e.content))
+        (cond b (option_map (breaks e.at) (der_rules ascii_rules e.content))
+        (cond c (option_map (breaks e.at) (der_rules ascii_rules e.content)) None)))
         (λ (c : List ℕ). Unit {0})
     by_tag true b c = by_rules utf8_rules
     by_tag false true c = by_rules ascii_rules
@@ -47,10 +49,18 @@ pub attribute-judged : (e : Tlv) → Judged (der (attribute_of e)) (judge (objec
 unfolding attribute_of
 attribute-judged e =
     no_more _ _ _
-    (subst (λ r. Judged r (judge (object_identifier then attribute_value then nothing) (inside e)) (λ a. Unit {0})) (sym (der-bind-two (element_at 0x06 (inside e)) (λ kind. value_at oid_rules (λ c. c) kind.0) _))
-    (element-judged 0x06 plain (der_rules oid_rules) (inside e) (λ kind. der (value_at oid_rules (λ c. c) kind)) _ _ _ (λ a. Unit {0}) (value-judged oid_rules (λ c. c) (element_of (inside e))) (λ oid h t p.
-    subst (λ r. Judged r (judge (attribute_value then nothing) (behind (inside e))) (λ a. Unit {0})) (sym (der-bind-two (next_at (behind (inside e))) (λ value. value_at (text_rules value.0.tag) (λ c. c) value.0) _))
-    (next-judged attribute_value (behind (inside e)) (λ value. der (value_at (text_rules value.tag) (λ c. c) value)) _ _ (λ c. Unit {0}) (λ a. Unit {0}) (text-judged (element_of (behind (inside e)))) (λ text g q.
+    (subst (λ r. Judged r (judge (object_identifier then attribute_value then nothing) (inside e))
+    (λ a. Unit {0})) (sym
+    (der-bind-two (element_at 0x06 (inside e)) (λ kind. value_at oid_rules (λ c. c) kind.0) _))
+    (element-judged 0x06 plain (der_rules oid_rules) (inside e)
+    (λ kind. der (value_at oid_rules (λ c. c) kind)) _ _ _ (λ a. Unit {0})
+    (value-judged oid_rules (λ c. c) (element_of (inside e))) (λ oid h t p.
+    subst (λ r. Judged r (judge (attribute_value then nothing) (behind (inside e))) (λ a. Unit {0}))
+    (sym (der-bind-two (next_at (behind (inside e)))
+    (λ value. value_at (text_rules value.0.tag) (λ c. c) value.0) _))
+    (next-judged attribute_value (behind (inside e))
+    (λ value. der (value_at (text_rules value.tag) (λ c. c) value)) _ _ (λ c. Unit {0})
+    (λ a. Unit {0}) (text-judged (element_of (behind (inside e)))) (λ text g q.
     ends (behind (behind (inside e))) _ _ (λ r. tt))))))
 
 pub attribute-reads : Reads attribute_type_and_value (λ here. der (attribute_at here)) Whatever
@@ -63,7 +73,9 @@ unfolding set_of_at order_at many
 order-judged e attributes es = rw (es.1, es.2) (by_tests (is_end e.content) (ascends (elements_of (length e.content) e.content)))
   where
     by_tests : (b c : Bool)
-        → Judged (der (located e.at (value_unless (cond b (Some Empty) None) e.content) >>= λ some. cond {A = Result (Unit {0}) Fault} c (Ok tt) (Err (fault_at e.at SetOrder)) >>= λ ordered. Ok attributes))
+        → Judged (der (at_element e.at (value_unless (cond b (Some Empty) None) e.content) >>=
+        λ some. cond {A = Result (Unit {0}) Fault} c (Ok tt) (Err (fault_at e.at SetOrder)) >>=
+        λ ordered. Ok attributes))
         (option_map (breaks e.at) (option_map Der (cond b (Some Empty) (cond (not c) (Some SetOrder) None)))) (λ (a : List Attr). Unit {0})
     by_tests true c = refl
     by_tests false true = (refl, tt)
@@ -72,7 +84,9 @@ order-judged e attributes es = rw (es.1, es.2) (by_tests (is_end e.content) (asc
 pub rdn-judged : (e : Tlv) → Judged (der (rdn_of e)) (judge (items attribute_type_and_value) (inside e) or_else option_map (breaks e.at) (der_rules set_rules e.content)) (λ a. Unit {0})
 unfolding rdn_of many
 rdn-judged e =
-    bind-der (many_from (length e.content) attribute_at (inside e)) _ _ _ _ _ (items-judged attribute_type_and_value attribute_at Whatever attribute-reads (length e.content) (inside e)) (λ attributes es. order-judged e attributes es)
+    bind-der (many_from (length e.content) attribute_at (inside e)) _ _ _ _ _
+    (items-judged attribute_type_and_value attribute_at Whatever attribute-reads (length e.content)
+    (inside e)) (λ attributes es. order-judged e attributes es)
 
 pub rdn-reads : Reads relative_distinguished_name (λ here. der (rdn_at here)) Whatever
 rdn-reads = within-reads 0x31 (items attribute_type_and_value) (der_rules set_rules) rdn_of Whatever rdn-judged

@@ -18,7 +18,9 @@ pub rest-within : (passed taken rest more : List (List Attr)) → canon_name pas
 rest-within passed taken rest more same within =
     let b = within.0 in
     let left : canon_name (passed ++ rest) ≡ canon_name taken ++ canon_name rest = canon-append passed rest ∙ ap (λ (xs : List (List CanonAttr)). xs ++ canon_name rest) same in
-    let right : canon_name (taken ++ more) ++ b ≡ canon_name taken ++ (canon_name more ++ b) = ap (λ (xs : List (List CanonAttr)). xs ++ b) (canon-append taken more) ∙ append_assoc (canon_name taken) (canon_name more) b in
+    let right : canon_name (taken ++ more) ++ b ≡ canon_name taken ++ (canon_name more ++ b) =
+    ap (λ (xs : List (List CanonAttr)). xs ++ b) (canon-append taken more)
+    ∙ append_assoc (canon_name taken) (canon_name more) b in
     (b, append_cancel_left (canon_name taken) (canon_name rest) (canon_name more ++ b) (sym left ∙ (within.1 ∙ right)))
 
 -- a name that has ended lies within no longer one
@@ -38,7 +40,9 @@ same-more passed taken x w same one =
     ∙ (ap (λ (xs : List (List CanonAttr)). xs ++ canon_rdn x ∷ []) same ∙ (ap (λ (r : List CanonAttr). canon_name taken ++ r ∷ []) one ∙ sym (canon-append taken (w ∷ []))))
 
 -- a name that begins with another is that one exactly if nothing is left
-pub ends-there : (a b rest after : List (List Attr)) (r : Option Rdn) (t : Bool) → canon_name a ≡ canon_name b ++ canon_name rest → YieldsFirstBy attributes_in (λ (left : List (List Attr)). left) rest r after
+pub ends-there : (a b rest after : List (List Attr)) (r : Option Rdn) (t : Bool)
+    → canon_name a ≡ canon_name b ++ canon_name rest
+    → YieldsFirstBy attributes_in (λ (left : List (List Attr)). left) rest r after
     → is_some r ≡ not t → IsTrue t ↔ (canon_name a ≡ canon_name b)
 unfolding canon_name
 ends-there a b rest after None true e steps s =
@@ -48,7 +52,9 @@ ends-there a b rest after (Some x) true e steps s = absurd cc
 ends-there a b rest after (Some x) false e steps s = (
   λ yes. absurd cc,
   λ one.
-      let longer : canon_name b ++ canon_rdn (attributes_in x) ∷ canon_name after ≡ canon_name b ++ [] = ap (λ (xs : List (List Attr)). canon_name b ++ canon_name xs) (sym steps) ∙ (sym e ∙ (one ∙ sym (append-nil (canon_name b)))) in
+      let longer : canon_name b ++ canon_rdn (attributes_in x) ∷ canon_name after ≡ canon_name b
+      ++ [] = ap (λ (xs : List (List Attr)). canon_name b ++ canon_name xs) (sym steps)
+      ∙ (sym e ∙ (one ∙ sym (append-nil (canon_name b)))) in
       let none = append_cancel_left (canon_name b) (canon_rdn (attributes_in x) ∷ canon_name after) [] longer in
       absurd cc,
 )

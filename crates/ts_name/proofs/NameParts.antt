@@ -11,7 +11,7 @@ use Rattle.ts_der.specs.Element.{Tlv, encode}
 use Rattle.ts_der.specs.Integer.{is_shortest, integer_rules}
 use Rattle.ts_der.specs.BitString.{whole_octets_rules}
 use Rattle.ts_der.specs.ObjectIdentifier.{is_oid, oid_rules}
-use Rattle.ts_der.specs.Reading.{located, value_at}
+use Rattle.ts_der.specs.Reading.{at_element, value_at}
 use Rattle.ts_der.proofs.Laws.{ok_is}
 use Rattle.ts_name.specs.Names.{name_of, name_at}
 use Rattle.ts_name.specs.NameEncoding.{IsName}

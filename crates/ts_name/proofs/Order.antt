@@ -10,7 +10,7 @@ use Rattle.std.proofs.lemmas.Bool.{false≢true, true≢false, false_from_ne_tru
 use Rattle.std.proofs.lemmas.Cmp.{nat_cmp_total, nat_list_cmp_total, on_total, then_total, upto, tied_itself}
 use Rattle.std.proofs.lemmas.List.Sums.{sum_by-cons}
 use Rattle.std.proofs.lemmas.List.Elements.{All-head, All-tail, All-weaker}
-use Rattle.ts_name.specs.Canon.{CanonAttr, compare_attrs, at_most, insert_attr, sort_attrs, is_same, count_of}
+use Rattle.ts_name.specs.Canon.{CanonAttr, compare_attrs, attr_at_most, insert_attr, sort_attrs, is_same, count_of}
 
 pub total : IsTotalOrder compare_attrs
 unfolding compare_attrs
@@ -66,46 +66,48 @@ at_most_from Less e = refl
 at_most_from Equal e = refl
 at_most_from Greater e = absurd (true≢false e)
 
-at_most-back : (a b : CanonAttr) → at_most a b ≡ false → at_most b a ≡ true
+at_most-back : (a b : CanonAttr) → attr_at_most a b ≡ false → attr_at_most b a ≡ true
 at_most-back a b e = ap is_le (total.antisymm b a) ∙ flipped (compare_attrs a b) e
 
-at_most-both : (a b : CanonAttr) → at_most a b ≡ true → at_most b a ≡ true → a ≡ b
+at_most-both : (a b : CanonAttr) → attr_at_most a b ≡ true → attr_at_most b a ≡ true → a ≡ b
 at_most-both a b e f = tied a b (tie (compare_attrs a b) e (sym (ap is_le (total.antisymm b a)) ∙ f))
 
-at_most-trans : (a b c : CanonAttr) → at_most a b ≡ true → at_most b c ≡ true → at_most a c ≡ true
+at_most-trans : (a b c : CanonAttr) → attr_at_most a b ≡ true → attr_at_most b c ≡ true → attr_at_most a c ≡ true
 at_most-trans a b c e f = at_most_from (compare_attrs a c) (upto total a b c (no_more (compare_attrs a b) e) (no_more (compare_attrs b c) f))
 
 -- ---- two attributes are inserted in either order
 
-insert-before : (a b : CanonAttr) (bs : List CanonAttr) (t : Bool) → at_most a b ≡ t → insert_attr a (b ∷ bs) ≡ cond t (a ∷ b ∷ bs) (b ∷ insert_attr a bs)
+insert-before : (a b : CanonAttr) (bs : List CanonAttr) (t : Bool) → attr_at_most a b ≡ t → insert_attr a (b ∷ bs) ≡ cond t (a ∷ b ∷ bs) (b ∷ insert_attr a bs)
 insert-before a b bs t e = ap (λ u. cond u (a ∷ b ∷ bs) (b ∷ insert_attr a bs)) e
 
-either_first : (a b : CanonAttr) (cs : List CanonAttr) → cond (at_most a b) (a ∷ b ∷ cs) (b ∷ a ∷ cs) ≡ cond (at_most b a) (b ∷ a ∷ cs) (a ∷ b ∷ cs)
-either_first a b cs = by_test (at_most a b) refl (at_most b a) refl
+either_first : (a b : CanonAttr) (cs : List CanonAttr) → cond (attr_at_most a b) (a ∷ b ∷ cs) (b ∷ a ∷ cs) ≡ cond (attr_at_most b a) (b ∷ a ∷ cs) (a ∷ b ∷ cs)
+either_first a b cs = by_test (attr_at_most a b) refl (attr_at_most b a) refl
   where
-    by_test : (t : Bool) → at_most a b ≡ t → (u : Bool) → at_most b a ≡ u → cond t (a ∷ b ∷ cs) (b ∷ a ∷ cs) ≡ cond u (b ∷ a ∷ cs) (a ∷ b ∷ cs)
+    by_test : (t : Bool) → attr_at_most a b ≡ t → (u : Bool) → attr_at_most b a ≡ u → cond t (a ∷ b ∷ cs) (b ∷ a ∷ cs) ≡ cond u (b ∷ a ∷ cs) (a ∷ b ∷ cs)
     by_test true e true f = let one = at_most-both a b e f in λ i. one i ∷ sym one i ∷ cs
     by_test true e false f = refl
     by_test false e true f = refl
     by_test false e false f = absurd (false≢true (sym f ∙ at_most-back a b e))
 
-both_before : (a b c : CanonAttr) (cs : List CanonAttr) → at_most a c ≡ true → at_most b c ≡ true → insert_attr a (b ∷ c ∷ cs) ≡ insert_attr b (a ∷ c ∷ cs)
+both_before : (a b c : CanonAttr) (cs : List CanonAttr) → attr_at_most a c ≡ true → attr_at_most b c ≡ true → insert_attr a (b ∷ c ∷ cs) ≡ insert_attr b (a ∷ c ∷ cs)
 both_before a b c cs p q =
-    ap (λ (ds : List CanonAttr). cond (at_most a b) (a ∷ b ∷ c ∷ cs) (b ∷ ds)) (insert-before a c cs true p)
+    ap (λ (ds : List CanonAttr). cond (attr_at_most a b) (a ∷ b ∷ c ∷ cs) (b ∷ ds)) (insert-before a c cs true p)
     ∙ either_first a b (c ∷ cs)
-    ∙ sym (ap (λ (ds : List CanonAttr). cond (at_most b a) (b ∷ a ∷ c ∷ cs) (a ∷ ds)) (insert-before b c cs true q))
+    ∙ sym (ap (λ (ds : List CanonAttr). cond (attr_at_most b a) (b ∷ a ∷ c ∷ cs) (a ∷ ds)) (insert-before b c cs true q))
 
-one_before : (a b c : CanonAttr) (cs : List CanonAttr) → at_most a c ≡ true → at_most b c ≡ false → insert_attr a (c ∷ insert_attr b cs) ≡ insert_attr b (a ∷ c ∷ cs)
+one_before : (a b c : CanonAttr) (cs : List CanonAttr) → attr_at_most a c ≡ true → attr_at_most b c ≡ false → insert_attr a (c ∷ insert_attr b cs) ≡ insert_attr b (a ∷ c ∷ cs)
 one_before a b c cs p q =
-    let later = false_from_ne_true (at_most b a) (λ t. false≢true (sym q ∙ at_most-trans b a c t p)) in
+    let later = false_from_ne_true (attr_at_most b a) (λ t. false≢true (sym q ∙ at_most-trans b a c t p)) in
     insert-before a c (insert_attr b cs) true p
     ∙ sym (insert-before b a (c ∷ cs) false later ∙ ap (λ (ds : List CanonAttr). a ∷ ds) (insert-before b c cs false q))
 
 pub insert-insert : (a b : CanonAttr) (cs : List CanonAttr) → insert_attr a (insert_attr b cs) ≡ insert_attr b (insert_attr a cs)
 insert-insert a b [] = either_first a b []
-insert-insert a b (c ∷ cs) = by_test (insert-insert a b cs) (at_most a c) refl (at_most b c) refl
+insert-insert a b (c ∷ cs) = by_test (insert-insert a b cs) (attr_at_most a c) refl (attr_at_most b c) refl
   where
-    by_test : insert_attr a (insert_attr b cs) ≡ insert_attr b (insert_attr a cs) → (t : Bool) → at_most a c ≡ t → (u : Bool) → at_most b c ≡ u → insert_attr a (insert_attr b (c ∷ cs)) ≡ insert_attr b (insert_attr a (c ∷ cs))
+    by_test : insert_attr a (insert_attr b cs) ≡ insert_attr b (insert_attr a cs) → (t : Bool)
+        → attr_at_most a c ≡ t → (u : Bool) → attr_at_most b c ≡ u
+        → insert_attr a (insert_attr b (c ∷ cs)) ≡ insert_attr b (insert_attr a (c ∷ cs))
     by_test more true p true q = ap (insert_attr a) (insert-before b c cs true q) ∙ both_before a b c cs p q ∙ sym (ap (insert_attr b) (insert-before a c cs true p))
     by_test more true p false q = ap (insert_attr a) (insert-before b c cs false q) ∙ one_before a b c cs p q ∙ sym (ap (insert_attr b) (insert-before a c cs true p))
     by_test more false p true q = ap (insert_attr a) (insert-before b c cs true q) ∙ sym (one_before b a c cs q p) ∙ sym (ap (insert_attr b) (insert-before a c cs false p))
@@ -126,7 +128,7 @@ count_of-cons z a bs = sum_by-cons (λ b. cond (is_same z b) 1 0) a bs
 
 count_of-insert : (z a : CanonAttr) (bs : List CanonAttr) → count_of z (insert_attr a bs) ≡ once z a + count_of z bs
 count_of-insert z a [] = count_of-cons z a []
-count_of-insert z a (b ∷ bs) = by_test (count_of-insert z a bs) (at_most a b)
+count_of-insert z a (b ∷ bs) = by_test (count_of-insert z a bs) (attr_at_most a b)
   where
     by_test : count_of z (insert_attr a bs) ≡ once z a + count_of z bs → (t : Bool) → count_of z (cond t (a ∷ b ∷ bs) (b ∷ insert_attr a bs)) ≡ once z a + count_of z (b ∷ bs)
     by_test more true = count_of-cons z a (b ∷ bs)
@@ -138,7 +140,7 @@ count_of-sort z (b ∷ bs) = count_of-insert z b (sort_attrs bs) ∙ ap (λ n. o
 
 length-insert_attr : (a : CanonAttr) (bs : List CanonAttr) → length (insert_attr a bs) ≡ suc (length bs)
 length-insert_attr a [] = refl
-length-insert_attr a (b ∷ bs) = by_test (length-insert_attr a bs) (at_most a b)
+length-insert_attr a (b ∷ bs) = by_test (length-insert_attr a bs) (attr_at_most a b)
   where
     by_test : length (insert_attr a bs) ≡ suc (length bs) → (t : Bool) → length (cond t (a ∷ b ∷ bs) (b ∷ insert_attr a bs)) ≡ suc (suc (length bs))
     by_test more true = refl

@@ -12,8 +12,8 @@ use Rattle.ts_der.specs.Answer.{◌>>=◌}
 use Rattle.ts_der.specs.Rules.{first_broken, value_unless}
 use Rattle.ts_der.specs.Element.{Place, Tlv, Fits, encode, inside}
 use Rattle.ts_der.specs.ObjectIdentifier.{is_oid, oid_rules}
-use Rattle.ts_der.specs.Reading.{is_end, fault_at, located, value_at, next_at, element_at, many, end_at}
-use Rattle.ts_der.specs.SetOf.{ascends, Member, encoded, order_at, set_of_at}
+use Rattle.ts_der.specs.Reading.{is_end, fault_at, at_element, value_at, next_at, element_at, many, end_at}
+use Rattle.ts_der.specs.SetOf.{ascends, Member, member_octets, order_at, set_of_at}
 use Rattle.ts_der.proofs.Sets.{members-again}
 use Rattle.ts_der.proofs.OctetLists.{AreOctets-back}
 use Rattle.ts_der.proofs.Elements.{next-found}
@@ -26,7 +26,7 @@ use Rattle.ts_name.specs.NameEncoding.{attribute_content, encoded_attribute, rdn
 use Rattle.ts_shape.proofs.Codecs.{Codec, many-found, many-again}
 
 -- a value that was located
-value-ok : {A : Type 0} (o : Option DerFault) (at : ℕ) (x y : A) → located at (value_unless o x) ≡ Ok y → (o ≡ None) × (x ≡ y)
+value-ok : {A : Type 0} (o : Option DerFault) (at : ℕ) (x y : A) → at_element at (value_unless o x) ≡ Ok y → (o ≡ None) × (x ≡ y)
 value-ok None at x y e = (refl, ok_is {E = Fault} x y e)
 value-ok (Some k) at x y e = absurd cc
 
@@ -53,9 +53,17 @@ pub record Parts (e : Tlv) (a : Attr) : Type 0 where
 parts : (e : Tlv) (a : Attr) → attribute_of e ≡ Ok a → Parts e a
 unfolding attribute_of
 parts e a read =
-    let k = bind_ok (element_at 0x06 (inside e)) (λ kind. value_at oid_rules (λ c. c) kind.0 >>= λ oid. next_at kind.1 >>= λ value. value_at (text_rules value.0.tag) (λ c. c) value.0 >>= λ text. end_at value.1 >>= λ done. Ok (record { kind = oid; tag = value.0.tag; value = text })) a read in
-    let o = bind_ok (value_at oid_rules (λ c. c) k.0.0) (λ oid. next_at k.0.1 >>= λ value. value_at (text_rules value.0.tag) (λ c. c) value.0 >>= λ text. end_at value.1 >>= λ done. Ok (record { kind = oid; tag = value.0.tag; value = text })) a k.2 in
-    let v = bind_ok (next_at k.0.1) (λ value. value_at (text_rules value.0.tag) (λ c. c) value.0 >>= λ text. end_at value.1 >>= λ done. Ok (record { kind = o.0; tag = value.0.tag; value = text })) a o.2 in
+    let k = bind_ok (element_at 0x06 (inside e))
+    (λ kind. value_at oid_rules (λ c. c) kind.0 >>= λ oid. next_at kind.1 >>= λ value. value_at
+    (text_rules value.0.tag) (λ c. c) value.0 >>= λ text. end_at value.1 >>= λ done. Ok
+    (record { kind = oid; tag = value.0.tag; value = text })) a read in
+    let o = bind_ok (value_at oid_rules (λ c. c) k.0.0)
+    (λ oid. next_at k.0.1 >>= λ value. value_at (text_rules value.0.tag)
+    (λ c. c) value.0 >>= λ text. end_at value.1 >>= λ done. Ok
+    (record { kind = oid; tag = value.0.tag; value = text })) a k.2 in
+    let v = bind_ok (next_at k.0.1)
+    (λ value. value_at (text_rules value.0.tag) (λ c. c) value.0 >>= λ text. end_at value.1 >>=
+    λ done. Ok (record { kind = o.0; tag = value.0.tag; value = text })) a o.2 in
     let t = bind_ok (value_at (text_rules v.0.0.tag) (λ c. c) v.0.0) (λ text. end_at v.0.1 >>= λ done. Ok (record { kind = o.0; tag = v.0.0.tag; value = text })) a v.2 in
     let d = bind_ok (end_at v.0.1) (λ done. Ok (record { kind = o.0; tag = v.0.0.tag; value = t.0 })) a t.2 in
     let oid = value-ok (first_broken oid_rules k.0.0.content) k.0.0.at k.0.0.content o.0 o.1 in
@@ -83,7 +91,10 @@ attribute-found e a fits read =
     let first : e.content ≡ encode p.kind.tag p.kind.content ++ p.middle.rest = ks.whole ∙ ap (λ (w : List ℕ). w ++ p.middle.rest) ks.encoded in
     let second : e.content ≡ encode 0x06 p.kind.content ++ p.middle.rest = first ∙ ap (λ (t : ℕ). encode t p.kind.content ++ p.middle.rest) k.1 in
     let v = next-found p.middle p.value p.behind (AreOctets-back (encode 0x06 p.kind.content) p.middle.rest (subst AreOctets second fits)) p.value-read in
-    let last : p.middle.rest ≡ encode p.value.tag p.value.content = v.whole ∙ (ap (λ (w : List ℕ). w ++ p.behind.rest) v.encoded ∙ (ap (λ (w : List ℕ). encode p.value.tag p.value.content ++ w) p.done ∙ append-nil (encode p.value.tag p.value.content))) in
+    let last : p.middle.rest ≡ encode p.value.tag p.value.content = v.whole
+    ∙ (ap (λ (w : List ℕ). w ++ p.behind.rest) v.encoded
+    ∙ (ap (λ (w : List ℕ). encode p.value.tag p.value.content ++ w) p.done
+    ∙ append-nil (encode p.value.tag p.value.content))) in
     let whole : e.content ≡ encode 0x06 p.kind.content ++ encode p.value.tag p.value.content = second ∙ ap (λ (w : List ℕ). encode 0x06 p.kind.content ++ w) last in
     let is : IsAttribute (record { kind = p.kind.content; tag = p.value.tag; value = p.value.content }) = record { kind = p.kind-is; value = v.fits; text = p.text-is } in
     subst (λ (b : Attr). (e.content ≡ encode 0x06 b.kind ++ encode b.tag b.value) × IsAttribute b) p.made (whole, is)
@@ -114,12 +125,12 @@ attribute-codec = record { found = attribute-found; again = attribute-again }
 member : Attr → Member
 member a = record { tag = 0x30; content = attribute_content a }
 
-same_members : (attributes : List Attr) → map encoded (map member attributes) ≡ map encoded_attribute attributes
+same_members : (attributes : List Attr) → map member_octets (map member attributes) ≡ map encoded_attribute attributes
 unfolding member
 same_members [] = refl
 same_members (a ∷ attributes) = ap (λ (xs : List (List ℕ)). encoded_attribute a ∷ xs) (same_members attributes)
 
-same_whole : (attributes : List Attr) → flat_map encoded (map member attributes) ≡ flat_map encoded_attribute attributes
+same_whole : (attributes : List Attr) → flat_map member_octets (map member attributes) ≡ flat_map encoded_attribute attributes
 unfolding member
 same_whole [] = refl
 same_whole (a ∷ attributes) = ap (λ (xs : List ℕ). encoded_attribute a ++ xs) (same_whole attributes)

@@ -61,7 +61,13 @@ one-short (s ∷ q ∷ o ∷ w ∷ a ∷ b ∷ c ∷ t ∷ n ∷ value) front te
     let inner = attribute-encoded a b c t value short in
     let count : length (attribute_content x) ≡ 7 + length value = ap (λ (o : List ℕ). length o) inner ∙ omega arith in
     let form : length_octets (7 + length value) ≡ (7 + length value) ∷ [] = length_octets-short (7 + length value) (omega arith) in
-    let is : IsAttribute x = record { kind = three_go (a ∷ b ∷ c ∷ []) refl front.first front.second front.third; value = record { octet = front.octet; low = front.low; short = omega arith }; text = text } in
+    let is : IsAttribute x =
+    record {
+      kind = three_go (a ∷ b ∷ c ∷ []) refl front.first front.second front.third;
+      value =
+          record { octet = front.octet; low = front.low; short = omega arith };
+      text = text;
+    } in
     let fits : Fits 0x30 (attribute_content x) = record { octet = omega arith; low = omega arith; short = omega (arith, count) } in
     let whole : s ∷ q ∷ o ∷ w ∷ a ∷ b ∷ c ∷ t ∷ n ∷ value ≡ encode 0x30 (attribute_content x) = rw (count, form, inner, front.sequence, front.long, front.identifier, front.three, front.size) refl in
     (x, (whole ∙ sym (append-nil (encode 0x30 (attribute_content x))), record { some = λ none. absurd cc; each = ((is, fits), tt); ordered = refl }))
@@ -91,8 +97,16 @@ pub record ShortSet (octets : List ℕ) : Type 0 where
 -- a set of few octets
 set-of-few : (content : List ℕ) (xs : List Attr) (n : ℕ) → content ≡ rdn_content xs → length content ≡ n → n < 128 → Fits 0x31 (rdn_content xs) × (encoded_rdn xs ≡ 0x31 ∷ n ∷ content)
 set-of-few content xs n is count few =
-    let form : length_octets (length content) ≡ n ∷ [] = ap length_octets count ∙ length_octets-short n few in
-    (record { octet = omega arith; low = omega arith; short = omega (arith, ap (λ (o : List ℕ). length o) is) }, ap (λ (o : List ℕ). encode 0x31 o) (sym is) ∙ ap (λ (o : List ℕ). 0x31 ∷ (o ++ content)) form)
+    let form : length_octets (length content) ≡ n ∷ [] = ap length_octets count ∙ length_octets-short n few in (
+      record {
+        octet = omega arith;
+        low = omega arith;
+        short =
+            omega (arith, ap (λ (o : List ℕ). length o) is);
+      },
+      ap (λ (o : List ℕ). encode 0x31 o)
+          (sym is) ∙ ap (λ (o : List ℕ). 0x31 ∷ (o ++ content)) form,
+    )
 
 -- what is in it, and after it
 pub short-set : (octets : List ℕ) → ShortSet octets
@@ -122,11 +136,23 @@ short-set octets h =
     let one = one-short content front text in
     let encoded = set-of-few content (one.0 ∷ []) (size + 9) one.1.0 (omega (arith, count)) (omega (arith, below 1, h.outer)) in
     let here = encoded-out octets 0 11 11 refl h.eleven in
-    let front_is : octets ≡ 0x31 ∷ (size + 9) ∷ 0x30 ∷ (size + 7) ∷ 6 ∷ 3 ∷ get_or octets 6 0 ∷ get_or octets 7 0 ∷ get_or octets 8 0 ∷ get_or octets 9 0 ∷ size ∷ more = here ∙ rw (h.set, h.outer, h.sequence, h.inner, h.identifier, h.three) refl in
-    (one.0, one.1.1, encoded.0, front_is ∙ (ap (λ (o : List ℕ). 0x31 ∷ (size + 9) ∷ 0x30 ∷ (size + 7) ∷ 6 ∷ 3 ∷ get_or octets 6 0 ∷ get_or octets 7 0 ∷ get_or octets 8 0 ∷ get_or octets 9 0 ∷ size ∷ o) (sym (take-append-drop size more)) ∙ ap (λ (o : List ℕ). o ++ drop size more) (sym encoded.1)))
+    let front_is : octets ≡ 0x31 ∷ (size + 9) ∷ 0x30 ∷ (size + 7) ∷ 6 ∷ 3 ∷ get_or octets 6 0
+    ∷ get_or octets 7 0 ∷ get_or octets 8 0 ∷ get_or octets 9 0 ∷ size ∷ more = here
+    ∙ rw (h.set, h.outer, h.sequence, h.inner, h.identifier, h.three) refl in (
+      one.0,
+      one.1.1,
+      encoded.0,
+      front_is
+          ∙ (ap (λ (o : List ℕ). 0x31 ∷ (size + 9) ∷ 0x30 ∷ (size + 7) ∷ 6 ∷ 3 ∷ get_or octets 6 0
+          ∷ get_or octets 7 0 ∷ get_or octets 8 0 ∷ get_or octets 9 0 ∷ size ∷ o)
+          (sym (take-append-drop size more))
+          ∙ ap (λ (o : List ℕ). o ++ drop size more) (sym encoded.1)),
+    )
 
 -- one relative distinguished name more, at the front
-pub name-more : (octets more : List ℕ) (xs : List Attr) (rdns : List (List Attr)) → IsRdn xs → Fits 0x31 (rdn_content xs) → octets ≡ encoded_rdn xs ++ more → IsName more rdns → IsName octets (xs ∷ rdns)
+pub name-more : (octets more : List ℕ) (xs : List Attr) (rdns : List (List Attr)) → IsRdn xs
+    → Fits 0x31 (rdn_content xs) → octets ≡ encoded_rdn xs ++ more → IsName more rdns
+    → IsName octets (xs ∷ rdns)
 name-more octets more xs rdns is fits whole rest =
     record { each = ((is, fits), rest.each); whole = whole ∙ ap (λ (o : List ℕ). encoded_rdn xs ++ o) rest.whole }
 

@@ -11,7 +11,7 @@ use Rattle.ts_der.specs.Rules.{first_broken, value_unless}
 use Rattle.ts_der.specs.Element.{Place, Tlv, encode, encoded_at, inside}
 use Rattle.ts_der.specs.Header.{header_rules}
 use Rattle.ts_der.specs.Integer.{is_shortest, integer_rules}
-use Rattle.ts_der.specs.Reading.{unless, located, begins_with, is_end, element_of, behind, next_at, element_at, end_at}
+use Rattle.ts_der.specs.Reading.{unless, at_element, begins_with, is_end, element_of, behind, next_at, element_at, end_at}
 use Rattle.ts_der.proofs.Laws.{bind_ok, ok_is, element-only}
 use Rattle.ts_shape.specs.declared.fault.CertRule.TheVariants.{SubtreeBounds, AddressLength}
 use Rattle.ts_shape.specs.declared.fault.CertFault.{CertFault}
@@ -20,7 +20,7 @@ use Rattle.ts_shape.specs.Items.{each}
 use Rattle.ts_shape.specs.Fields.{IsInteger, optional_of}
 use Rattle.ts_name.specs.General.{GeneralName, general_of, general_at, has_range_length}
 use Rattle.ts_name.specs.GeneralTable.{general_name}
-use Rattle.ts_name.specs.Subtree.{GeneralSubtree, is_zero, is_unbounded, IsDistance, IsSubtree, IsConstraint, minimum_rules, minimum_of, maximum_of, subtree_of, constrained, constraint_of}
+use Rattle.ts_name.specs.Subtree.{GeneralSubtree, is_zero, is_unbounded, IsDistance, IsSubtree, IsConstraint, minimum_rules, minimum_of, maximum_of, subtree_of, constraint_by_rules, constraint_of}
 use Rattle.ts_name.specs.SubtreeTable.{minimum, maximum, subtree_fields, general_subtree, input, bounds_fault, address_fault, constraint_fault}
 use Rattle.ts_shape.specs.Shape.{optional, nothing, plain, ◌then◌, ◌or_else◌, header_fault, row_fault, judge, der_rules, no_rules}
 use Rattle.ts_shape.proofs.Endings.{end-ok, end-again}
@@ -31,7 +31,7 @@ use Rattle.ts_name.proofs.Generals.{general-part, general-reads, range-is}
 
 -- ---- minimum and maximum
 
-distance-ok : (s z : Bool) (at : ℕ) (c x : List ℕ) → located at (value_unless (cond (not s) (Some IntegerForm) (cond z (Some DefaultEncoded) None)) c) ≡ Ok x → (c ≡ x) × (s ≡ true) × (z ≡ false)
+distance-ok : (s z : Bool) (at : ℕ) (c x : List ℕ) → at_element at (value_unless (cond (not s) (Some IntegerForm) (cond z (Some DefaultEncoded) None)) c) ≡ Ok x → (c ≡ x) × (s ≡ true) × (z ≡ false)
 distance-ok true false at c x e = (ok_is {E = Fault} c x e, refl, refl)
 distance-ok true true at c x e = absurd cc
 distance-ok false z at c x e = absurd cc
@@ -47,7 +47,7 @@ minimum-value = record { found = λ e x fits w read. distance-found e x read; ag
     again : (e : Tlv) (x : List ℕ) → e.whole ≡ encode 0x80 e.content → IsDistance e.content x → minimum_of e ≡ Ok x
     again e x w is = rw (is.0.0, is.0.1, is.1) refl
 
-integer-ok : (s : Bool) (at : ℕ) (c x : List ℕ) → located at (value_unless (cond (not s) (Some IntegerForm) None) c) ≡ Ok x → (c ≡ x) × (s ≡ true)
+integer-ok : (s : Bool) (at : ℕ) (c x : List ℕ) → at_element at (value_unless (cond (not s) (Some IntegerForm) None) c) ≡ Ok x → (c ≡ x) × (s ≡ true)
 integer-ok true at c x e = (ok_is {E = Fault} c x e, refl)
 integer-ok false at c x e = absurd cc
 
@@ -107,11 +107,14 @@ subtree-value = record { found = λ e s fits w read. subtree-found e s fits read
 
 -- ---- the octets of a constraint
 
-constrained-ok : (s x : GeneralSubtree) → constrained s ≡ Ok x → (s ≡ x) × (is_unbounded s ≡ true) × (has_range_length s.base ≡ true)
-unfolding constrained
+constrained-ok : (s x : GeneralSubtree) → constraint_by_rules s ≡ Ok x → (s ≡ x) × (is_unbounded s ≡ true) × (has_range_length s.base ≡ true)
+unfolding constraint_by_rules
 constrained-ok s x e = by_tests (is_unbounded s) (has_range_length s.base) e
   where
-    by_tests : (b c : Bool) → cond {A = Result GeneralSubtree CertFault} (not b) (Err (breaks 0 SubtreeBounds)) (cond (not c) (Err (breaks 0 AddressLength)) (Ok s)) ≡ Ok x → (s ≡ x) × (b ≡ true) × (c ≡ true)
+    by_tests : (b c : Bool)
+        → cond {A = Result GeneralSubtree CertFault} (not b) (Err (breaks 0 SubtreeBounds))
+        (cond (not c) (Err (breaks 0 AddressLength)) (Ok s)) ≡ Ok x → (s ≡ x) × (b ≡ true)
+        × (c ≡ true)
     by_tests true true e = (ok_is {E = CertFault} s x e, refl, refl)
     by_tests true false e = absurd cc
     by_tests false c e = absurd cc
@@ -138,7 +141,7 @@ constraint-found octets s fits read =
     })
 
 pub constraint-again : (octets : List ℕ) (s : GeneralSubtree) → IsConstraint octets s → constraint_of octets ≡ Ok s
-unfolding constraint_of constrained
+unfolding constraint_of constraint_by_rules
 constraint-again octets s is =
     let content = is.whole.content in
     let e = element-only (input octets) 0x30 content [] is.whole.fits (input_again octets content is.whole.encoded) in
@@ -236,14 +239,22 @@ subtree-judged e = known (subtree_of e) _ _ (Says e) (says e) table
         (under (general_at (inside e)) _ _ _
         (then-judged general_name (optional minimum then optional maximum then nothing) (inside e) (λ here. der (general_at here)) _ Whatever _ refl general-reads (λ base p.
         under (optional_of 0x80 minimum_of (behind (inside e))) _ _ _
-        (optional-judged 0x80 plain (der_rules minimum_rules) (optional maximum then nothing) (behind (inside e)) minimum_of _ Whatever _ (λ e. weaker _ _ _ _ (λ x p. tt) (value-judged minimum_rules (λ c. c) e)) (λ least after.
+        (optional-judged 0x80 plain (der_rules minimum_rules) (optional maximum then nothing)
+        (behind (inside e)) minimum_of _ Whatever _
+        (λ e. weaker _ _ _ _ (λ x p. tt) (value-judged minimum_rules (λ c. c) e)) (λ least after.
         under (optional_of 0x81 maximum_of after) _ _ _
-        (optional-judged 0x81 plain (der_rules integer_rules) nothing after maximum_of _ Whatever _ (λ e. weaker _ _ _ _ (λ x p. tt) (value-judged integer_rules (λ c. c) e)) (λ most last. ends last _ _ (λ h. tt))))))))
+        (optional-judged 0x81 plain (der_rules integer_rules) nothing after maximum_of _ Whatever _
+        (λ e. weaker _ _ _ _ (λ x p. tt) (value-judged integer_rules (λ c. c) e))
+        (λ most last. ends last _ _ (λ h. tt))))))))
 
 -- the rules of a constraint
-constrained-judged : (e : Tlv) (s : GeneralSubtree) → Says e s → Judged (constrained s) (bounds_fault e or_else address_fault (element_of (inside e))) (λ s. Unit {0})
-unfolding constrained
-constrained-judged e s is = rw (is.0, is.1) (by_tests (is_end (behind (inside e)).rest) (eqb (element_of (inside e)).tag 0x87 && not (eqb (length (element_of (inside e)).content) 8 || eqb (length (element_of (inside e)).content) 32)))
+constrained-judged : (e : Tlv) (s : GeneralSubtree) → Says e s → Judged (constraint_by_rules s) (bounds_fault e or_else address_fault (element_of (inside e))) (λ s. Unit {0})
+unfolding constraint_by_rules
+constrained-judged e s is =
+    rw (is.0, is.1) (by_tests (is_end (behind (inside e)).rest)
+    (eqb (element_of (inside e)).tag 0x87
+    && not (eqb (length (element_of (inside e)).content) 8
+    || eqb (length (element_of (inside e)).content) 32)))
   where
     by_tests : (b c : Bool) → Judged (cond (not b) (Err (breaks 0 SubtreeBounds)) (cond (not (not c)) (Err (breaks 0 AddressLength)) (Ok s)))
         (cond b None (Some (breaks 0 SubtreeBounds)) or_else cond c (Some (breaks 0 AddressLength)) None) (λ (s : GeneralSubtree). Unit {0})
@@ -256,11 +267,11 @@ unfolding constraint_of
 constraint-judged octets =
     let e = element_of (input octets) in
     let last : Option CertFault = bounds_fault e or_else address_fault (element_of (inside e)) in
-    subst (λ o. Judged (der (element_at 0x30 (input octets)) >>= λ e. der (subtree_of e.0) >>= λ s. der (end_at e.1) >>= λ done. constrained s) o (λ s. Unit {0}))
+    subst (λ o. Judged (der (element_at 0x30 (input octets)) >>= λ e. der (subtree_of e.0) >>= λ s. der (end_at e.1) >>= λ done. constraint_by_rules s) o (λ s. Unit {0}))
     (sym (regroup (header_fault (input octets) or_else row_fault general_subtree e) (judge nothing (behind (input octets))) last))
-    (element-judged 0x30 subtree_fields no_rules (input octets) (λ e. der (subtree_of e)) (λ e s. der (end_at e.1) >>= λ done. constrained s) _ (Says e) (λ s. Unit {0})
+    (element-judged 0x30 subtree_fields no_rules (input octets) (λ e. der (subtree_of e)) (λ e s. der (end_at e.1) >>= λ done. constraint_by_rules s) _ (Says e) (λ s. Unit {0})
     (subtree-judged e) (λ s h t is.
-    end-judged (behind (input octets)) (λ done. constrained s) last (λ s. Unit {0}) (λ none. constrained-judged e s is)))
+    end-judged (behind (input octets)) (λ done. constraint_by_rules s) last (λ s. Unit {0}) (λ none. constrained-judged e s is)))
 
 pub constraint-refusal : (octets : List ℕ) → refusal (constraint_of octets) ≡ constraint_fault octets
 constraint-refusal octets = refusal-judged (constraint_of octets) _ _ (constraint-judged octets)

@@ -3,8 +3,8 @@ use Rattle.std.proofs.Common.{◌≡◌, ◌≢◌, ◌<◌, ◌≤◌, ℕ, get
 use Rattle.std.proofs.lemmas.Bool.{eqb-true, false_from_ne_true}
 use Rattle.std.specs.Prelude.{not, map, filter}
 use Rattle.std.specs.List.{join_with_byte}
-use Rattle.ts_name.specs.Canon.{begin_with, parts, is_word, words, fold_case, folded}
-use Rattle.ts_name.specs.Gaps.{at_word, without_gaps}
+use Rattle.ts_name.specs.Canon.{begin_with, parts, is_word, words, fold_case, canonical_text}
+use Rattle.ts_name.specs.inside.Gaps.{at_word, without_gaps}
 
 -- the octets before the first octet 20, and the parts after it
 abbrev front : List ℕ → List ℕ
@@ -19,7 +19,9 @@ parts-is : (text : List ℕ) → parts text ≡ front text ∷ back text
 parts-is [] = refl
 parts-is (octet ∷ rest) =
     ap (λ ps. cond (eqb octet 0x20) ([] ∷ ps) (begin_with octet ps)) (parts-is rest)
-    ∙ (elim (eqb octet 0x20) as (λ b. cond b ([] ∷ front rest ∷ back rest) ((octet ∷ front rest) ∷ back rest) ≡ cond b [] (octet ∷ front rest) ∷ cond b (front rest ∷ back rest) (back rest)) [ true ↦ refl | false ↦ refl ])
+    ∙ (elim (eqb octet 0x20) as (λ b. cond b ([] ∷ front rest ∷ back rest)
+    ((octet ∷ front rest) ∷ back rest) ≡ cond b [] (octet ∷ front rest)
+    ∷ cond b (front rest ∷ back rest) (back rest)) [ true ↦ refl | false ↦ refl ])
 
 -- the words that follow, each after an octet 20
 abbrev spaced : List (List ℕ) → List ℕ
@@ -31,7 +33,9 @@ join-first word [] = sym (append-nil word)
 join-first word (next ∷ others) = refl
 
 -- an octet 20 with what is behind it
-gap : (octet : ℕ) (part : List ℕ) (others : List (List ℕ)) → octet ≡ 0x20 → cond (is_word part) (octet ∷ (part ++ spaced (filter is_word others))) (part ++ spaced (filter is_word others)) ≡ spaced (filter is_word (part ∷ others))
+gap : (octet : ℕ) (part : List ℕ) (others : List (List ℕ)) → octet ≡ 0x20
+    → cond (is_word part) (octet ∷ (part ++ spaced (filter is_word others)))
+    (part ++ spaced (filter is_word others)) ≡ spaced (filter is_word (part ∷ others))
 gap octet [] others e = refl
 gap octet (next ∷ part) others e =
     ap (λ (o : ℕ). o ∷ ((next ∷ part) ++ spaced (filter is_word others))) e
@@ -57,12 +61,12 @@ read_at_word octet rest e =
     ∙ rw (parts-is (octet ∷ rest), e) (sym (join-first (octet ∷ front rest) (filter is_word (back rest))))
 
 -- without an octet 20 at the front, the text is read in canonical form
-pub read_at_end : (text : List ℕ) → length text < 1 → map fold_case (without_gaps text) ≡ folded text
-unfolding folded
+pub read_at_end : (text : List ℕ) → length text < 1 → map fold_case (without_gaps text) ≡ canonical_text text
+unfolding canonical_text
 read_at_end [] h = refl
 read_at_end (octet ∷ rest) h = absurd (omega arith)
 
-pub read_from_word : (text : List ℕ) → 1 ≤ length text → get_or text 0 0 ≢ 0x20 → map fold_case (without_gaps text) ≡ folded text
-unfolding folded
+pub read_from_word : (text : List ℕ) → 1 ≤ length text → get_or text 0 0 ≢ 0x20 → map fold_case (without_gaps text) ≡ canonical_text text
+unfolding canonical_text
 read_from_word [] h ne = absurd (omega arith)
 read_from_word (octet ∷ rest) h ne = ap (map fold_case) (read_at_word octet rest (false_from_ne_true (eqb octet 0x20) (λ t. ne (eqb-true octet 0x20 t))))

@@ -47,15 +47,15 @@ abbrev pub words : List ℕ → List (List ℕ)
 words text = filter is_word (parts text)
 
 -- a text in canonical form: its words with one octet 20 between each two, the letters folded
-unfoldable pub folded : List ℕ → List ℕ
-folded text = map fold_case (join_with_byte 0x20 (words text))
+unfoldable pub canonical_text : List ℕ → List ℕ
+canonical_text text = map fold_case (join_with_byte 0x20 (words text))
 
 -- an attribute in canonical form: text is folded and has one tag, any other value is its tag and
 -- its octets
 unfoldable pub canon_attr : Attr → CanonAttr
 canon_attr a =
     if is_text a.tag
-    then record { kind = a.kind; tag = 0x0C; value = folded a.value }
+    then record { kind = a.kind; tag = 0x0C; value = canonical_text a.value }
     else record { kind = a.kind; tag = a.tag; value = a.value }
 
 -- the order of attributes in canonical form: by type, then by tag, then by value; of octets the
@@ -65,13 +65,13 @@ compare_attrs a b =
     ordering_then (slice_cmp nat_cmp a.kind b.kind)
     (ordering_then (nat_cmp a.tag b.tag) (slice_cmp nat_cmp a.value b.value))
 
-abbrev pub at_most : CanonAttr → CanonAttr → Bool
-at_most a b = is_le (compare_attrs a b)
+abbrev pub attr_at_most : CanonAttr → CanonAttr → Bool
+attr_at_most a b = is_le (compare_attrs a b)
 
 -- an attribute put before the first that it is at most
 abbrev pub insert_attr : CanonAttr → List CanonAttr → List CanonAttr
 insert_attr a [] = a ∷ []
-insert_attr a (b ∷ bs) = if at_most a b then a ∷ b ∷ bs else b ∷ insert_attr a bs
+insert_attr a (b ∷ bs) = if attr_at_most a b then a ∷ b ∷ bs else b ∷ insert_attr a bs
 
 -- attributes in ascending order
 abbrev pub sort_attrs : List CanonAttr → List CanonAttr

@@ -1,6 +1,4 @@
 pub mod Canon
-pub mod Gaps
-pub mod Folding
 pub mod View
 pub mod CanonView
 pub mod Names
@@ -14,5 +12,5 @@ pub mod SubtreeTable
 pub mod SubtreeView
 pub mod Sameness
 pub mod Holds
-pub mod Sorted
 pub mod NameRows
+pub mod inside

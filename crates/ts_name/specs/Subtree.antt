@@ -84,8 +84,8 @@ subtree_of e = do
   Ok (record { base = base.0; minimum = unwrap_or minimum.0 (0 ∷ []); maximum = maximum.0 })
 
 -- the rules of a constraint, whose faults have place 0
-unfoldable pub constrained : GeneralSubtree → Result GeneralSubtree CertFault
-constrained s =
+unfoldable pub constraint_by_rules : GeneralSubtree → Result GeneralSubtree CertFault
+constraint_by_rules s =
     if not (is_unbounded s) then Err (breaks 0 SubtreeBounds)
     else (if not (has_range_length s.base) then Err (breaks 0 AddressLength) else Ok s)
 
@@ -95,4 +95,4 @@ constraint_of octets = do
   e ← der (element_at 0x30 (record { rest = octets; at = 0 }))
   s ← der (subtree_of e.0)
   done ← der (end_at e.1)
-  constrained s
+  constraint_by_rules s

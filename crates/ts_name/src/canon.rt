@@ -6,7 +6,7 @@ ghost use Rattle.ts_name.specs.CanonView.{attr_in};
 ghost use Rattle.ts_name.specs.View.{attr_of};
 
 use crate::attribute::Attribute;
-use crate::folded::Folded;
+use crate::folded::FoldedText;
 use std::alloc::{AllocError, Global};
 use ts_der::tag::UTF8_STRING;
 
@@ -43,7 +43,7 @@ pub fn canon_attribute(
 {
     let kind = Vec::from_slice(alloc, attribute.kind)?;
     if attribute.is_text() {
-        let value = Folded::new(attribute.value).collect(alloc)?;
+        let value = FoldedText::new(attribute.value).collect(alloc)?;
         Ok(CanonAttribute {
             kind,
             tag: UTF8_STRING,

@@ -4,13 +4,13 @@
 ghost use Rattle.std.specs.Prelude.{◌≡◌, ◌≤◌, ◌↔◌, [], true, IsTrue, IsPermutation, length, map};
 ghost use Rattle.std.specs.Cmp.Lexicographic.{slice_cmp};
 ghost use Rattle.std.specs.Ordering.{nat_cmp};
-ghost use Rattle.ts_name.specs.Canon.{canon_attr, canon_rdn, compare_attrs, folded};
+ghost use Rattle.ts_name.specs.Canon.{canon_attr, canon_rdn, compare_attrs, canonical_text};
 ghost use Rattle.ts_name.specs.NameView.{attributes_in};
-ghost use Rattle.ts_name.specs.Sorted.{canon_of, AreSorted};
+ghost use Rattle.ts_name.specs.inside.Sorted.{canon_of, AreSorted};
 ghost use Rattle.ts_name.specs.View.{attr_of};
 
 use crate::attribute::Attribute;
-use crate::folded::Folded;
+use crate::folded::FoldedText;
 use crate::rdn::Rdn;
 use arrayvec::ArrayVec;
 use std::cmp::Ordering;
@@ -61,9 +61,9 @@ impl Attribute<'_> {
 
 /// The order of two texts in canonical form.
 fn compare_texts(a: &[u8], b: &[u8]) -> Ordering
-    ensures { result ≡ slice_cmp nat_cmp (folded a.now) (folded b.now) }
+    ensures { result ≡ slice_cmp nat_cmp (canonical_text a.now) (canonical_text b.now) }
 {
-    Folded::new(a).cmp(Folded::new(b))
+    FoldedText::new(a).cmp(FoldedText::new(b))
 }
 
 /// Puts the attributes of a table in the order of their canonical form.

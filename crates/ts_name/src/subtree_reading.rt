@@ -11,7 +11,7 @@ ghost use Rattle.ts_name.specs.GeneralView.{general_in};
 ghost use Rattle.ts_shape.specs.Shape.{judge};
 ghost use Rattle.ts_shape.specs.Steps.{Takes};
 ghost use Rattle.ts_name.specs.Subtree.{GeneralSubtree, is_unbounded, IsSubtree, IsConstraint};
-ghost use Rattle.ts_name.specs.Subtree.{minimum_of, maximum_of, subtree_of, constrained};
+ghost use Rattle.ts_name.specs.Subtree.{minimum_of, maximum_of, subtree_of, constraint_by_rules};
 ghost use Rattle.ts_name.specs.Subtree.{constraint_of};
 ghost use Rattle.ts_name.specs.SubtreeTable.{subtree_fields, constraint_fault};
 ghost use Rattle.ts_name.specs.SubtreeView.{subtree_in};
@@ -86,9 +86,9 @@ fn read_subtree<'a>(element: Element<'a>) -> Result<Subtree<'a>, Fault>
 }
 
 /// Nothing, where a subtree has no bounds and its IP address a mask (RFC 5280 4.2.1.10).
-#[tactic(auto, unfolding(crate::specs::Subtree::constrained))]
+#[tactic(auto, unfolding(crate::specs::Subtree::constraint_by_rules))]
 fn check_constraint(subtree: Subtree<'_>) -> Result<(), CertFault>
-    ensures { refusal result ≡ refusal (constrained (subtree_in subtree.entry)) }
+    ensures { refusal result ≡ refusal (constraint_by_rules (subtree_in subtree.entry)) }
 {
     if !subtree.is_unbounded() {
         return Err(CertFault {
@@ -106,7 +106,7 @@ fn check_constraint(subtree: Subtree<'_>) -> Result<(), CertFault>
 }
 
 /// The subtree of a constraint that octets are, with nothing after it.
-#[tactic(auto, unfolding(crate::specs::Subtree::constraint_of, crate::specs::Subtree::constrained))]
+#[tactic(auto, unfolding(crate::specs::Subtree::constraint_of, crate::specs::Subtree::constraint_by_rules))]
 fn read_constraint(octets: &[u8]) -> Result<Subtree<'_>, CertFault>
     ensures { Answers subtree_in result (constraint_of octets.now) }
 {

@@ -19,8 +19,8 @@ use Rattle.ts_node.specs.declared.node.Node.{Node}
 use Rattle.ts_node.specs.declared.input.Input.{Input}
 use Rattle.ts_node.specs.declared.input.Input.TheVariants as inputs
 use Rattle.ts_node.specs.declared.input.Output.{Output}
-use Rattle.ts_node.specs.declared.input.NodeFault.{NodeFault}
-use Rattle.ts_node.specs.declared.input.NodeFault.TheVariants as faults
+use Rattle.ts_synod.specs.declared.fault.NodeFault.{NodeFault}
+use Rattle.ts_synod.specs.declared.fault.NodeFault.TheVariants as faults
 use Rattle.ts_node.specs.Inputs.{IsInput}
 use Rattle.ts_node.specs.Node.{Compacts, Does, Handles, IsSame, config, facts, owner, volatile}
 use Rattle.ts_node.specs.Call.{IsCall}
@@ -32,7 +32,10 @@ use Rattle.ts_node.proofs.Batches.{all_batches_are}
 use Rattle.ts_node.proofs.Images.{from_either, same_refl}
 
 -- a turn is the same for facts of one force
-same_turn : {C O T Q V : Type 0} (store : Store C O T Q V) (k : Config) (fs gs : List (Fact C)) → SameForce fs gs → (v : world.Volatile C) (sent : List (Message C)) (inputs : List (world.Input C Q)) → turn store k (node_with fs v) sent inputs ≡ turn store k (node_with gs v) sent inputs
+same_turn : {C O T Q V : Type 0} (store : Store C O T Q V) (k : Config) (fs gs : List (Fact C))
+    → SameForce fs gs → (v : world.Volatile C) (sent : List (Message C))
+    (inputs : List (world.Input C Q))
+    → turn store k (node_with fs v) sent inputs ≡ turn store k (node_with gs v) sent inputs
 same_turn store k fs gs force v sent [] = refl
 same_turn store k fs gs force v sent (input ∷ inputs) =
     let s = step store k (node_with fs v) sent input in
@@ -40,9 +43,14 @@ same_turn store k fs gs force v sent (input ∷ inputs) =
     ap (step_then s) (same_turn store k (fs ++ s.effect.facts) (gs ++ s.effect.facts) (same_append fs gs s.effect.facts force) s.effect.volatile (sent ++ s.effect.messages) inputs)
     ∙ ap (λ (x : world.Step _ _ _ _). step_then x (turn store k (node_with (gs ++ x.effect.facts) x.effect.volatile) (sent ++ x.effect.messages) inputs)) (same_step store k fs gs force v sent input)
 
-module _ {D C M O Q A B : Type 0} (state : D → State) (octets : C → List ℕ) (store : Store C O (List C) Q (List C)) (commands : M → List C) (basis : M → B) (is_answer : B → List C → Q → A → Type 0) (n : ℕ) (rest : B) where
+module _ {D C M O Q A B : Type 0} (state : D → State) (octets : C → List ℕ)
+    (store : Store C O (List C) Q (List C)) (commands : M → List C) (basis : M → B)
+    (is_answer : B → List C → Q → A → Type 0) (n : ℕ) (rest : B) where
   -- a fault that changes nothing is allowed
-  refusal : (s : Group D C M O Q A) (i : ℕ) (new : Node D C M) → Works state octets store commands basis is_answer n rest s i → config new ≡ config (s.nodes i) → IsSame (s.nodes i) new → IsAllowed octets store (is_answer rest) n s (refused i new)
+  refusal : (s : Group D C M O Q A) (i : ℕ) (new : Node D C M)
+      → Works state octets store commands basis is_answer n rest s i
+      → config new ≡ config (s.nodes i) → IsSame (s.nodes i) new
+      → IsAllowed octets store (is_answer rest) n s (refused i new)
   refusal s i new works same is = (works.node, same, is)
 
   answers : (s : Group D C M O Q A) (i : ℕ) (new : Node D C M) → Works state octets store commands basis is_answer n rest s i → config new ≡ config (s.nodes i)
@@ -57,7 +65,10 @@ module _ {D C M O Q A B : Type 0} (state : D → State) (octets : C → List ℕ
   answers s i new works same (Err faults.GenerationsExhausted) step h = absurd h
 
   -- an input that an event belongs to is no compaction
-  call_of : (s : Group D C M O Q A) (i : ℕ) (input : Input C Q) (event : world.Input C Q) (output : Output C O A) (new : Node D C M) → IsInput s.sent input event → May state octets store commands basis is_answer n rest s (called i input output new) → May state octets store commands basis is_answer n rest s (answer_of i input output new)
+  call_of : (s : Group D C M O Q A) (i : ℕ) (input : Input C Q) (event : world.Input C Q)
+      (output : Output C O A) (new : Node D C M) → IsInput s.sent input event
+      → May state octets store commands basis is_answer n rest s (called i input output new)
+      → May state octets store commands basis is_answer n rest s (answer_of i input output new)
   call_of s i (inputs.Deliver m) event output new is h = h
   call_of s i (inputs.Submit c) event output new is h = h
   call_of s i (inputs.Ask k q) event output new is h = h
@@ -66,7 +77,10 @@ module _ {D C M O Q A B : Type 0} (state : D → State) (octets : C → List ℕ
   call_of s i inputs.Status event output new is h = h
   call_of s i inputs.Compact event output new is h = absurd (no_event s.sent inputs.Compact event refl is)
 
-  halt_of : (s : Group D C M O Q A) (i : ℕ) (input : Input C Q) (event : world.Input C Q) (a b : List ℕ) (opened : Node D C M) → IsInput s.sent input event → May state octets store commands basis is_answer n rest s (stopped i input a b opened) → May state octets store commands basis is_answer n rest s (stop_of i input a b opened)
+  halt_of : (s : Group D C M O Q A) (i : ℕ) (input : Input C Q) (event : world.Input C Q)
+      (a b : List ℕ) (opened : Node D C M) → IsInput s.sent input event
+      → May state octets store commands basis is_answer n rest s (stopped i input a b opened)
+      → May state octets store commands basis is_answer n rest s (stop_of i input a b opened)
   halt_of s i (inputs.Deliver m) event a b opened is h = h
   halt_of s i (inputs.Submit c) event a b opened is h = h
   halt_of s i (inputs.Ask k q) event a b opened is h = h
@@ -75,7 +89,12 @@ module _ {D C M O Q A B : Type 0} (state : D → State) (octets : C → List ℕ
   halt_of s i inputs.Status event a b opened is h = h
   halt_of s i inputs.Compact event a b opened is h = absurd (no_event s.sent inputs.Compact event refl is)
 
-  turn_with : (s : Group D C M O Q A) (i : ℕ) (input : Input C Q) (event : world.Input C Q) (output : Output C O A) (made : List (Message C)) (new : Node D C M) → IsInput s.sent input event → May state octets store commands basis is_answer n rest s (turned i input output made new) → May state octets store commands basis is_answer n rest s (turn_answer_of i input output made new)
+  turn_with : (s : Group D C M O Q A) (i : ℕ) (input : Input C Q) (event : world.Input C Q)
+      (output : Output C O A) (made : List (Message C)) (new : Node D C M)
+      → IsInput s.sent input event
+      → May state octets store commands basis is_answer n rest s (turned i input output made new)
+      → May state octets store commands basis is_answer n rest s
+      (turn_answer_of i input output made new)
   turn_with s i (inputs.Deliver m) event output made new is h = h
   turn_with s i (inputs.Submit c) event output made new is h = h
   turn_with s i (inputs.Ask k q) event output made new is h = h
@@ -86,7 +105,10 @@ module _ {D C M O Q A B : Type 0} (state : D → State) (octets : C → List ℕ
 
   compacted : (s : Group D C M O Q A) (i : ℕ) (new : Node D C M) → Works state octets store commands basis is_answer n rest s i → config new ≡ config (s.nodes i)
       → (result : Result (Output C O A) NodeFault) → Compacts (s.nodes i) result new
-      → MatchResult result (λ output. May state octets store commands basis is_answer n rest s (rewritten i output new)) (λ fault. (fault ≡ faults.DiskFailed) ⊎ May state octets store commands basis is_answer n rest s (refused i new))
+      → MatchResult result (λ output. May state octets store commands basis is_answer n rest s
+      (rewritten i output new))
+      (λ fault. (fault ≡ faults.DiskFailed)
+      ⊎ May state octets store commands basis is_answer n rest s (refused i new))
   compacted s i new works same (Ok output) h = (works.node, same, h)
   compacted s i new works same (Err faults.Memory) h = inr (refusal s i new works same h)
   compacted s i new works same (Err faults.GenerationsExhausted) h = inr (refusal s i new works same h.1)
@@ -95,17 +117,37 @@ module _ {D C M O Q A B : Type 0} (state : D → State) (octets : C → List ℕ
   compacted s i new works same (Err faults.RoundsExhausted) h = absurd h
   compacted s i new works same (Err faults.PositionsExhausted) h = absurd h
 
-  called_is : (s : Group D C M O Q A) (i : ℕ) (input : Input C Q) (event : world.Input C Q) (result : Result (Output C O A) NodeFault) (new : Node D C M) → Works state octets store commands basis is_answer n rest s i → IsInput s.sent input event → IsCall state octets store basis is_answer (s.nodes i) input result new
-      → MatchResult result (λ output. May state octets store commands basis is_answer n rest s (answer_of i input output new)) (λ fault. (fault ≡ faults.DiskFailed) ⊎ May state octets store commands basis is_answer n rest s (refused i new))
-  called_is s i input event (Ok output) new works is call = call_of s i input event output new is
-      (works.node, call.same_config, event, is, λ kept force. subst (λ b. Handles (is_answer b) (s.nodes i) (Ok output) new (step_at octets store (is_answer rest) n s i kept event)) works.rests (call.step works.whole kept s.sent event force is))
+  called_is : (s : Group D C M O Q A) (i : ℕ) (input : Input C Q) (event : world.Input C Q)
+      (result : Result (Output C O A) NodeFault) (new : Node D C M)
+      → Works state octets store commands basis is_answer n rest s i → IsInput s.sent input event
+      → IsCall state octets store basis is_answer (s.nodes i) input result new
+      → MatchResult result (λ output. May state octets store commands basis is_answer n rest s
+      (answer_of i input output new))
+      (λ fault. (fault ≡ faults.DiskFailed)
+      ⊎ May state octets store commands basis is_answer n rest s (refused i new))
+  called_is s i input event (Ok output) new works is call = call_of s i input event output new is (
+    works.node,
+    call.same_config,
+    event,
+    is,
+    λ kept force. subst
+        (λ b. Handles (is_answer b) (s.nodes i) (Ok output) new
+        (step_at octets store (is_answer rest) n s i kept event)) works.rests
+        (call.step works.whole kept s.sent event force is),
+  )
   called_is s i input event (Err fault) new works is call =
       answers s i new works call.same_config (Err fault) (step_at octets store (is_answer rest) n s i (facts (s.nodes i)) event)
-      (subst (λ b. Handles (is_answer b) (s.nodes i) (Err fault) new (step_at octets store (is_answer rest) n s i (facts (s.nodes i)) event)) works.rests (call.step works.whole (facts (s.nodes i)) s.sent event (same_refl (facts (s.nodes i))) is))
+      (subst (λ b. Handles (is_answer b) (s.nodes i) (Err fault) new
+      (step_at octets store (is_answer rest) n s i (facts (s.nodes i)) event)) works.rests
+      (call.step works.whole (facts (s.nodes i)) s.sent event (same_refl (facts (s.nodes i))) is))
 
   calls_are : CallsAre state octets store commands basis is_answer n rest
   calls_are s i input result new works (inl is) call =
-      subst (λ x. MatchResult result (λ output. May state octets store commands basis is_answer n rest s (answer_of i x output new)) (λ fault. (fault ≡ faults.DiskFailed) ⊎ May state octets store commands basis is_answer n rest s (refused i new))) (sym is)
+      subst (λ x. MatchResult result
+      (λ output. May state octets store commands basis is_answer n rest s
+      (answer_of i x output new))
+      (λ fault. (fault ≡ faults.DiskFailed)
+      ⊎ May state octets store commands basis is_answer n rest s (refused i new))) (sym is)
       (compacted s i new works call.same_config result (call.compacts works.whole is).0)
   calls_are s i input result new works (inr (event, is)) call = called_is s i input event result new works is call
 
@@ -117,7 +159,9 @@ module _ {D C M O Q A B : Type 0} (state : D → State) (octets : C → List ℕ
       (works.node, event, is, λ kept force. call.moments works.whole kept s.sent event force is a b left.0 left.1, at)
 
   -- the fault of a turn
-  turn_fault : (s : Group D C M O Q A) (i : ℕ) (new : Node D C M) (made : List (Message C)) (t : Turn C O Q (List C)) → Works state octets store commands basis is_answer n rest s i → config new ≡ config (s.nodes i)
+  turn_fault : (s : Group D C M O Q A) (i : ℕ) (new : Node D C M) (made : List (Message C))
+      (t : Turn C O Q (List C)) → Works state octets store commands basis is_answer n rest s i
+      → config new ≡ config (s.nodes i)
       → (fault : NodeFault) → HandlesTurn (is_answer rest) (s.nodes i) (Err fault) made new t
       → (fault ≡ faults.DiskFailed) ⊎ (fault ≡ faults.Broken) ⊎ May state octets store commands basis is_answer n rest s (refused i new)
   turn_fault s i new made t works same faults.Memory h = inr (inr (refusal s i new works same h))
@@ -127,14 +171,26 @@ module _ {D C M O Q A B : Type 0} (state : D → State) (octets : C → List ℕ
   turn_fault s i new made t works same faults.Broken h = inr (inl refl)
   turn_fault s i new made t works same faults.GenerationsExhausted h = absurd h
 
-  turn_is : (s : Group D C M O Q A) (i : ℕ) (input : Input C Q) (event : world.Input C Q) (result : Result (Output C O A) NodeFault) (new : Node D C M) → Works state octets store commands basis is_answer n rest s i → IsInput s.sent input event → IsTurn state octets store basis is_answer (s.nodes i) input result new
+  turn_is : (s : Group D C M O Q A) (i : ℕ) (input : Input C Q) (event : world.Input C Q)
+      (result : Result (Output C O A) NodeFault) (new : Node D C M)
+      → Works state octets store commands basis is_answer n rest s i → IsInput s.sent input event
+      → IsTurn state octets store basis is_answer (s.nodes i) input result new
       → MatchResult result (λ output. (made : List (Message C)) × May state octets store commands basis is_answer n rest s (turn_answer_of i input output made new))
       (λ fault. (fault ≡ faults.DiskFailed) ⊎ (fault ≡ faults.Broken) ⊎ May state octets store commands basis is_answer n rest s (refused i new))
   turn_is s i input event (Ok output) new works is call =
       let more = own_numbers (config (s.nodes i)).me (length s.sent) (take call.looked call.made) in (
         call.made,
-        turn_with s i input event output call.made new is
-            (works.node, call.same_config, event, is, more, λ kept force. subst (λ b. DoesTurn (is_answer b) (s.nodes i) output call.made new (turn_of octets store (is_answer rest) n s i kept event more)) works.rests (call.turned works.whole kept s.sent event force is).handles),
+        turn_with s i input event output call.made new is (
+          works.node,
+          call.same_config,
+          event,
+          is,
+          more,
+          λ kept force. subst
+              (λ b. DoesTurn (is_answer b) (s.nodes i) output call.made new
+              (turn_of octets store (is_answer rest) n s i kept event more)) works.rests
+              (call.turned works.whole kept s.sent event force is).handles,
+        ),
       )
   turn_is s i input event (Err fault) new works is call =
       let t = turn_of octets store (is_answer rest) n s i (facts (s.nodes i)) event (own_numbers (config (s.nodes i)).me (length s.sent) (take call.looked call.made)) in
@@ -142,7 +198,10 @@ module _ {D C M O Q A B : Type 0} (state : D → State) (octets : C → List ℕ
       (subst (λ b. HandlesTurn (is_answer b) (s.nodes i) (Err fault) call.made new t) works.rests (call.turned works.whole (facts (s.nodes i)) s.sent event (same_refl (facts (s.nodes i))) is).handles)
 
   compacts_turn : (s : Group D C M O Q A) (i : ℕ) (new : Node D C M) (result : Result (Output C O A) NodeFault)
-      → MatchResult result (λ output. May state octets store commands basis is_answer n rest s (rewritten i output new)) (λ fault. (fault ≡ faults.DiskFailed) ⊎ May state octets store commands basis is_answer n rest s (refused i new))
+      → MatchResult result (λ output. May state octets store commands basis is_answer n rest s
+      (rewritten i output new))
+      (λ fault. (fault ≡ faults.DiskFailed)
+      ⊎ May state octets store commands basis is_answer n rest s (refused i new))
       → MatchResult result (λ output. (made : List (Message C)) × May state octets store commands basis is_answer n rest s (rewritten i output new))
       (λ fault. (fault ≡ faults.DiskFailed) ⊎ (fault ≡ faults.Broken) ⊎ May state octets store commands basis is_answer n rest s (refused i new))
   compacts_turn s i new (Ok output) h = ([], h)
@@ -150,7 +209,12 @@ module _ {D C M O Q A B : Type 0} (state : D → State) (octets : C → List ℕ
 
   turns_are : TurnsAre state octets store commands basis is_answer n rest
   turns_are s i input result new works (inl is) call =
-      subst (λ x. MatchResult result (λ output. (made : List (Message C)) × May state octets store commands basis is_answer n rest s (turn_answer_of i x output made new)) (λ fault. (fault ≡ faults.DiskFailed) ⊎ (fault ≡ faults.Broken) ⊎ May state octets store commands basis is_answer n rest s (refused i new))) (sym is)
+      subst (λ x. MatchResult result
+      (λ output. (made : List (Message C))
+      × May state octets store commands basis is_answer n rest s
+      (turn_answer_of i x output made new))
+      (λ fault. (fault ≡ faults.DiskFailed) ⊎ (fault ≡ faults.Broken)
+      ⊎ May state octets store commands basis is_answer n rest s (refused i new))) (sym is)
       (compacts_turn s i new result (compacted s i new works call.same_config result (call.compacts works.whole is).0))
   turns_are s i input result new works (inr (event, is)) call = turn_is s i input event result new works is call
 

@@ -8,12 +8,12 @@ use Rattle.ts_synod.specs.declared.message.Fact.{Fact}
 use Rattle.ts_synod.specs.Config.{Config}
 use Rattle.ts_synod.specs.Store.{Store}
 use Rattle.ts_node.specs.declared.input.Input.{Input}
-use Rattle.ts_node.specs.declared.input.NodeFault.{NodeFault}
-use Rattle.ts_node.specs.declared.input.NodeFault.TheVariants as faults
+use Rattle.ts_synod.specs.declared.fault.NodeFault.{NodeFault}
+use Rattle.ts_synod.specs.declared.fault.NodeFault.TheVariants as faults
 use Rattle.ts_node.specs.declared.input.Output.{Output}
 use Rattle.ts_node.specs.declared.node.Node.{Node}
 use Rattle.ts_node.specs.Ahead.{AreBehind, IsKept, IsTaken, holding}
-use Rattle.ts_node.specs.Node.{Failed, Moments, ToEither, config, facts, is_broken, member_as, volatile}
+use Rattle.ts_node.specs.Node.{HasFailed, Moments, ToEither, config, facts, is_broken, member_as, volatile}
 use Rattle.ts_node.specs.Staged.{Keeps}
 use Rattle.ts_node.proofs.Breaks.{both_not, first_not, second_not}
 
@@ -23,10 +23,14 @@ module _ {D C M O Q A B : Type 0} (octets : C → List ℕ) (store : Store C O (
   AreTaken before old [] [] after new = (after ≡ before) × (new ≡ old)
   AreTaken before old [] (r ∷ rs) after new = ⊥
   AreTaken before old (input ∷ inputs) [] after new = ⊥
-  AreTaken before old (input ∷ inputs) (r ∷ rs) after new = (then' : List (Fact C)) × (mid : Node D C M) × IsTaken octets store basis is_answer before old input r then' mid × AreTaken then' mid inputs rs after new
+  AreTaken before old (input ∷ inputs) (r ∷ rs) after new = (then' : List (Fact C))
+      × (mid : Node D C M) × IsTaken octets store basis is_answer before old input r then' mid
+      × AreTaken then' mid inputs rs after new
 
   -- Some turns, of which a crash at any moment leaves no fact, or all facts of all of them.
-  pub record IsBatch (state : D → State) (old : Node D C M) (inputs : List (Input C Q)) (results : List (Result (Output C O A) NodeFault)) (more : List (Fact C)) (result : Result (Unit {0}) NodeFault) (new : Node D C M) : Type 0 where
+  pub record IsBatch (state : D → State) (old : Node D C M) (inputs : List (Input C Q))
+      (results : List (Result (Output C O A) NodeFault)) (more : List (Fact C))
+      (result : Result (Unit {0}) NodeFault) (new : Node D C M) : Type 0 where
     -- the node once it has these facts
     pub last : Node D C M
     pub taken : AreTaken [] old inputs results more last
@@ -56,7 +60,10 @@ module _ {D C M O Q A B : Type 0} (octets : C → List ℕ) (store : Store C O (
   holding_none : (old : Node D C M) → holding old [] ≡ old
   holding_none old = ap (λ fs. record old { kept = record old.kept { facts = fs } }) (append-nil old.kept.facts)
 
-  module _ (state : D → State) (old : Node D C M) (inputs : List (Input C Q)) (results : List (Result (Output C O A) NodeFault)) (more : List (Fact C)) (mid : Node D C M) (after : List (Fact C)) (new : Node D C M) (whole : is_broken old ≡ false) (are : AreBehind octets store basis is_answer [] old inputs results more mid) where
+  module _ (state : D → State) (old : Node D C M) (inputs : List (Input C Q))
+      (results : List (Result (Output C O A) NodeFault)) (more : List (Fact C)) (mid : Node D C M)
+      (after : List (Fact C)) (new : Node D C M) (whole : is_broken old ≡ false)
+      (are : AreBehind octets store basis is_answer [] old inputs results more mid) where
     same : (mid.kept ≡ old.kept) × (old.ahead ≡ false → mid.ahead ≡ false) × (config mid ≡ config old)
     same = kept_of [] old inputs results more mid are
 
@@ -67,12 +74,15 @@ module _ {D C M O Q A B : Type 0} (octets : C → List ℕ) (store : Store C O (
     taken = subst (λ n. AreTaken [] n inputs results more (holding mid more)) (holding_none old) (taken_of [] old inputs results more mid are)
 
     from : Moments state octets mid more new → Moments state octets old more new
-    from h = subst (λ k. EveryPair (ToEither octets (member_as (config old)) k.facts more) (state k.a) (state k.b) (state new.kept.a) (state new.kept.b)) same.0 (subst (λ (k : Config). EveryPair (ToEither octets (member_as k) (facts mid) more) (state mid.kept.a) (state mid.kept.b) (state new.kept.a) (state new.kept.b)) same.2 h)
+    from h = subst (λ k. EveryPair (ToEither octets (member_as (config old)) k.facts more)
+        (state k.a) (state k.b) (state new.kept.a) (state new.kept.b)) same.0
+        (subst (λ (k : Config). EveryPair (ToEither octets (member_as k) (facts mid) more)
+        (state mid.kept.a) (state mid.kept.b) (state new.kept.a) (state new.kept.b)) same.2 h)
 
     kept_so : (result : Result (Unit {0}) NodeFault) → Keeps state mid more (volatile mid) result new → Keeps state old more (volatile mid) result new
     kept_so (Ok x) h = (h.0 ∙ ap (λ k. k.facts ++ more) same.0, h.1)
     kept_so (Err faults.Broken) h = (h.0, h.1 ∙ same.0)
-    kept_so (Err faults.DiskFailed) h = (h.0, subst (λ k. Failed state (record mid { kept = k }) new) same.0 h.1)
+    kept_so (Err faults.DiskFailed) h = (h.0, subst (λ k. HasFailed state (record mid { kept = k }) new) same.0 h.1)
     kept_so (Err faults.Memory) h = absurd h
     kept_so (Err faults.RoundsExhausted) h = absurd h
     kept_so (Err faults.PositionsExhausted) h = absurd h

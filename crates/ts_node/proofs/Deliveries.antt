@@ -39,7 +39,9 @@ pub misses_high : (to me from nodes : ℕ) → nodes < from → ((to == me) && i
 misses_high to me from nodes l = second_false (to == me) (is_node nodes from) (second_false (nat_le 1 from) (nat_le from nodes) (grind (arith, nat_tests)))
 
 module _ {C O T Q V : Type 0} (store : Store C O T Q V) (config : Config) (node : world.Node C) (sent : List (Message C)) where
-  pub deliver_is : (m : Message C) (event : world.Input C Q) → IsInput sent (inputs.Deliver m) event → world.with_reply (world.on_message store config node.facts node.volatile m) world.Done ≡ world.step store config node sent event
+  pub deliver_is : (m : Message C) (event : world.Input C Q) → IsInput sent (inputs.Deliver m) event
+      → world.with_reply (world.on_message store config node.facts node.volatile m) world.Done ≡
+      world.step store config node sent event
   deliver_is m (world.Deliver which) is = ap (λ (o : Option (Message C)). world.with_reply (world.on_delivery store config node o) world.Done) (sym is)
   deliver_is m (world.Submit c) is = absurd is
   deliver_is m (world.Question k q) is = absurd is
@@ -55,15 +57,25 @@ module _ {C O T Q V : Type 0} (store : Store C O T Q V) (config : Config) (node 
   submit_is c world.CatchUp is = absurd is
   submit_is c world.Status is = absurd is
 
-  pub ask_is : (k : Option ℕ) (q : Q) (event : world.Input C Q) → IsInput sent (inputs.Ask k q) event → world.reply_only node.volatile (world.on_question store (prefix (log_of node.facts)) k q) ≡ world.step store config node sent event
+  pub ask_is : (k : Option ℕ) (q : Q) (event : world.Input C Q)
+      → IsInput sent (inputs.Ask k q) event
+      → world.reply_only node.volatile (world.on_question store (prefix (log_of node.facts)) k q) ≡
+      world.step store config node sent event
   ask_is k q (world.Deliver which) is = absurd is
   ask_is k q (world.Submit d) is = absurd is
-  ask_is k q (world.Question at' question) is = ap (λ j. world.reply_only node.volatile (world.on_question store (prefix (log_of node.facts)) j q)) is.0 ∙ ap (λ x. world.reply_only node.volatile (world.on_question store (prefix (log_of node.facts)) at' x)) is.1
+  ask_is k q (world.Question at' question) is =
+      ap (λ j. world.reply_only node.volatile
+      (world.on_question store (prefix (log_of node.facts)) j q)) is.0
+      ∙ ap (λ x. world.reply_only node.volatile
+      (world.on_question store (prefix (log_of node.facts)) at' x)) is.1
   ask_is k q (world.Outcome id) is = absurd is
   ask_is k q world.CatchUp is = absurd is
   ask_is k q world.Status is = absurd is
 
-  pub outcome_is : (id : List ℕ) (event : world.Input C Q) → IsInput sent (inputs.Outcome id) event → world.reply_only node.volatile (world.outcome_reply store id (settling store (prefix (log_of node.facts)) id)) ≡ world.step store config node sent event
+  pub outcome_is : (id : List ℕ) (event : world.Input C Q) → IsInput sent (inputs.Outcome id) event
+      → world.reply_only node.volatile
+      (world.outcome_reply store id (settling store (prefix (log_of node.facts)) id)) ≡ world.step
+      store config node sent event
   outcome_is id (world.Deliver which) is = absurd is
   outcome_is id (world.Submit d) is = absurd is
   outcome_is id (world.Question k q) is = absurd is
@@ -71,7 +83,10 @@ module _ {C O T Q V : Type 0} (store : Store C O T Q V) (config : Config) (node 
   outcome_is id world.CatchUp is = absurd is
   outcome_is id world.Status is = absurd is
 
-  pub catch_up_is : (event : world.Input C Q) → IsInput sent inputs.CatchUp event → world.with_reply (world.output_effect node.volatile (only_messages (catch_up config (log_of node.facts)))) world.Done ≡ world.step store config node sent event
+  pub catch_up_is : (event : world.Input C Q) → IsInput sent inputs.CatchUp event
+      → world.with_reply (world.output_effect node.volatile
+      (only_messages (catch_up config (log_of node.facts)))) world.Done ≡ world.step store config
+      node sent event
   catch_up_is (world.Deliver which) is = absurd is
   catch_up_is (world.Submit d) is = absurd is
   catch_up_is (world.Question k q) is = absurd is
@@ -79,7 +94,9 @@ module _ {C O T Q V : Type 0} (store : Store C O T Q V) (config : Config) (node 
   catch_up_is world.CatchUp is = refl
   catch_up_is world.Status is = absurd is
 
-  pub status_is : (event : world.Input C Q) → IsInput sent inputs.Status event → world.reply_only node.volatile (world.Prefix (length (prefix (log_of node.facts)))) ≡ world.step store config node sent event
+  pub status_is : (event : world.Input C Q) → IsInput sent inputs.Status event
+      → world.reply_only node.volatile (world.Prefix (length (prefix (log_of node.facts)))) ≡
+      world.step store config node sent event
   status_is (world.Deliver which) is = absurd is
   status_is (world.Submit d) is = absurd is
   status_is (world.Question k q) is = absurd is

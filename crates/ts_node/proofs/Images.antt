@@ -1,5 +1,7 @@
 -- Pairs of images, whichever disk is in use; and what stays a part of the prefix.
-use Rattle.std.proofs.Common.{◌≡◌, ◌∙◌, ◌⊎◌, ◌≤◌, ◌++◌, ◌∷◌, ℕ, zero, suc, List, [], Option, Some, None, Result, Err, IfErr, Bool, true, false, is_some, length, take, min, inl, inr, refl, sym, ap, subst, append_assoc, arith, ⊎_elim}
+use Rattle.std.proofs.Common.{◌≡◌, ◌∙◌, ◌⊎◌, ◌≤◌, ◌++◌, ◌∷◌, ℕ, zero, suc, List, [], Option, Some}
+use Rattle.std.proofs.Common.{None, Result, Err, IfErr, Bool, true, false, is_some, length, take}
+use Rattle.std.proofs.Common.{min, inl, inr, refl, sym, ap, subst, append_assoc, arith, ⊎_elim}
 use Rattle.std.proofs.lemmas.List.{length-take}
 use Rattle.ts_disk.specs.Disk.{State, IsDisk}
 use Rattle.ts_journal.specs.Images.{Member, AnyPair, EveryPair, Opens, OpensFrom}
@@ -9,8 +11,8 @@ use Rattle.ts_synod.specs.Log.{prefix}
 use Rattle.ts_synod.proofs.Same.{learned_push, same_log}
 use Rattle.ts_node.specs.declared.roles.Roles.{Roles}
 use Rattle.ts_node.specs.Roles.{StandFor}
-use Rattle.ts_record.specs.declared.fault.Fault.{Fault}
-use Rattle.ts_record.specs.declared.fault.Fault.TheVariants.{Broken, DiskFailed, GenerationsExhausted, Memory}
+use Rattle.ts_record.specs.declared.fault.RecordFault.{RecordFault}
+use Rattle.ts_record.specs.declared.fault.RecordFault.TheVariants.{Broken, DiskFailed, GenerationsExhausted, Memory}
 use Rattle.ts_record.specs.Facts.{OpensTo}
 use Rattle.ts_record.specs.Record.{OpensToFrom, ToBeforeOrAfter}
 use Rattle.ts_node.specs.Growing.{IsPart}
@@ -24,12 +26,20 @@ either m false bodies a b o = inl o
 pub from_either : {C : Type 0} (octets : C → List ℕ) (m : Member) (swapped : Bool) (facts : List (Fact C)) (a b : List ℕ) → OpensToFrom octets m swapped facts a b → OpensTo octets m facts a b
 from_either octets m swapped facts a b o = (o.0, either m swapped o.0 a b o.1, o.2)
 
-pub to_either : {C : Type 0} (octets : C → List ℕ) (m : Member) (swapped : Bool) (facts more : List (Fact C)) (a b : List ℕ) → ToBeforeOrAfter octets m swapped facts more a b → ToEither octets m facts more a b
+pub to_either : {C : Type 0} (octets : C → List ℕ) (m : Member) (swapped : Bool)
+    (facts more : List (Fact C)) (a b : List ℕ) → ToBeforeOrAfter octets m swapped facts more a b
+    → ToEither octets m facts more a b
 to_either octets m swapped facts more a b o = ⊎_elim (λ x. inl (from_either octets m swapped facts a b x)) (λ y. inr (from_either octets m swapped (facts ++ more) a b y)) o
 
 -- where nothing is called, the images stay
-pub rests : {C : Type 0} (octets : C → List ℕ) (m k : Member) (swapped : Bool) (facts more : List (Fact C)) (a b : State) → m ≡ k → IsDisk a → IsDisk b → AnyPair (OpensToFrom octets m swapped facts) a b → EveryPair (ToEither octets k facts more) a b a b
-rests octets m k swapped facts more a b same da db opens ca cb la lb = subst (λ x. ToEither octets x facts more ca cb) same (inl (from_either octets m swapped facts ca cb (opens ca cb (da.only_now ca la) (db.only_now cb lb))))
+pub rests : {C : Type 0} (octets : C → List ℕ) (m k : Member) (swapped : Bool)
+    (facts more : List (Fact C)) (a b : State) → m ≡ k → IsDisk a → IsDisk b
+    → AnyPair (OpensToFrom octets m swapped facts) a b
+    → EveryPair (ToEither octets k facts more) a b a b
+rests octets m k swapped facts more a b same da db opens ca cb la lb =
+    subst (λ x. ToEither octets x facts more ca cb) same
+    (inl (from_either octets m swapped facts ca cb
+    (opens ca cb (da.only_now ca la) (db.only_now cb lb))))
 
 first_stays : {A : Type 0} (x y : Option A) → is_some x ≡ true → first_some x y ≡ x
 first_stays None y h = absurd (cc)
@@ -59,7 +69,9 @@ part_extends f g cs more is =
     is ∙ ap (take (length cs)) (prefix_extends f g more) ∙ take_take (length cs) n (prefix g) (omega arith)
 
 -- the fault of a call that answers one
-pub cause : {T : Type 0} (r : Result T Fault) (fault : Fault) → r ≡ Err fault → IfErr r (λ f. (f ≡ Memory) ⊎ (f ≡ DiskFailed) ⊎ (f ≡ Broken)) → (fault ≡ Memory) ⊎ (fault ≡ DiskFailed) ⊎ (fault ≡ Broken)
+pub cause : {T : Type 0} (r : Result T RecordFault) (fault : RecordFault) → r ≡ Err fault
+    → IfErr r (λ f. (f ≡ Memory) ⊎ (f ≡ DiskFailed) ⊎ (f ≡ Broken)) → (fault ≡ Memory)
+    ⊎ (fault ≡ DiskFailed) ⊎ (fault ≡ Broken)
 cause r fault is h = subst (λ x. IfErr x (λ f. (f ≡ Memory) ⊎ (f ≡ DiskFailed) ⊎ (f ≡ Broken))) is h
 
 pub same_refl : {C : Type 0} (fs : List (Fact C)) → SameForce fs fs
@@ -77,5 +89,7 @@ stand_force roles fs gs force h = record {
   few = h.few;
 }
 
-pub rewrite_cause : {T : Type 0} (r : Result T Fault) (fault : Fault) → r ≡ Err fault → IfErr r (λ f. (f ≡ Memory) ⊎ (f ≡ DiskFailed) ⊎ (f ≡ Broken) ⊎ (f ≡ GenerationsExhausted)) → (fault ≡ Memory) ⊎ (fault ≡ DiskFailed) ⊎ (fault ≡ Broken) ⊎ (fault ≡ GenerationsExhausted)
+pub rewrite_cause : {T : Type 0} (r : Result T RecordFault) (fault : RecordFault) → r ≡ Err fault
+    → IfErr r (λ f. (f ≡ Memory) ⊎ (f ≡ DiskFailed) ⊎ (f ≡ Broken) ⊎ (f ≡ GenerationsExhausted))
+    → (fault ≡ Memory) ⊎ (fault ≡ DiskFailed) ⊎ (fault ≡ Broken) ⊎ (fault ≡ GenerationsExhausted)
 rewrite_cause r fault is h = subst (λ x. IfErr x (λ f. (f ≡ Memory) ⊎ (f ≡ DiskFailed) ⊎ (f ≡ Broken) ⊎ (f ≡ GenerationsExhausted))) is h

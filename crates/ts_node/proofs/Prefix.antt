@@ -6,8 +6,8 @@ use Rattle.ts_synod.specs.Log.{last_position, leading, prefix}
 use Rattle.ts_synod.proofs.PrefixLength.{length_leads}
 use Rattle.ts_synod.proofs.Sets.{by_test}
 use Rattle.ts_log.specs.declared.log.Log.{Log}
-use Rattle.ts_log.specs.declared.log.Change.{Change}
-use Rattle.ts_log.specs.declared.log.Change.TheVariants.{Learn, Nothing, Receive}
+use Rattle.ts_log.specs.declared.log.LogChange.{LogChange}
+use Rattle.ts_log.specs.declared.log.LogChange.TheVariants.{Learn, Nothing, Receive}
 use Rattle.ts_log.specs.Log.{learned_of}
 use Rattle.ts_log.specs.Steps.{IsChangeOf, learned_after}
 use Rattle.ts_synod.specs.declared.message.Fact.{Fact}
@@ -17,7 +17,11 @@ leading_get : {C : Type 0} (k p : ℕ) (f : ℕ → Option C) (i : ℕ) (d c : C
 leading_get zero p f i d c l is = absurd (omega arith)
 leading_get {C} (suc k) p f i d c l is = go (leading_get k (suc p) f) (f p) refl i l is
   where
-    go : ((j : ℕ) (d c : C) → j < length (leading k (suc p) f) → f (suc p + j) ≡ Some c → get_or (leading k (suc p) f) j d ≡ c) → (o : Option C) → f p ≡ o → (i : ℕ) → i < length {A = C} (elim o [ None ↦ [] | Some e ↦ e ∷ leading k (suc p) f ]) → f (p + i) ≡ Some c → get_or {A = C} (elim o [ None ↦ [] | Some e ↦ e ∷ leading k (suc p) f ]) i d ≡ c
+    go : ((j : ℕ) (d c : C) → j < length (leading k (suc p) f) → f (suc p + j) ≡ Some c
+        → get_or (leading k (suc p) f) j d ≡ c) → (o : Option C) → f p ≡ o → (i : ℕ)
+        → i < length {A = C} (elim o [ None ↦ [] | Some e ↦ e ∷ leading k (suc p) f ])
+        → f (p + i) ≡ Some c → get_or {A = C}
+        (elim o [ None ↦ [] | Some e ↦ e ∷ leading k (suc p) f ]) i d ≡ c
     go rest None e i l is = absurd (omega arith)
     go rest (Some x) e zero l is = let z : p + 0 ≡ p = omega arith in let same : f p ≡ Some c = subst (λ q. f q ≡ Some c) z is in cc
     go rest (Some x) e (suc i) l is = let z : p + suc i ≡ suc p + i = omega arith in rest i d c (omega arith) (subst (λ q. f q ≡ Some c) z is)
@@ -58,7 +62,11 @@ leading_extends : {C : Type 0} (k p : ℕ) (f g : ℕ → Option C) → Extends 
 leading_extends zero p f g more = refl
 leading_extends {C} (suc k) p f g more = go (f p) refl (leading_extends k (suc p) f g more)
   where
-    go : (o : Option C) → f p ≡ o → leading k (suc p) f ≡ take (length (leading k (suc p) f)) (leading k (suc p) g) → elim o [ None ↦ [] | Some e ↦ e ∷ leading k (suc p) f ] ≡ take (length {A = C} (elim o [ None ↦ [] | Some e ↦ e ∷ leading k (suc p) f ])) (leading (suc k) p g)
+    go : (o : Option C) → f p ≡ o
+        → leading k (suc p) f ≡ take (length (leading k (suc p) f)) (leading k (suc p) g)
+        → elim o [ None ↦ [] | Some e ↦ e ∷ leading k (suc p) f ] ≡ take
+        (length {A = C} (elim o [ None ↦ [] | Some e ↦ e ∷ leading k (suc p) f ]))
+        (leading (suc k) p g)
     go None e rest = refl
     go (Some x) e rest =
         let same : g p ≡ Some x = more p (ap is_some e) ∙ e in
@@ -69,7 +77,7 @@ unfolding prefix
 prefix_extends f g more = leading_extends last_position 1 f g more
 
 -- a step of the log
-pub step_extends : {C : Type 0} (log : Log C) (change : Change C) (facts : List (Fact C)) → IsChangeOf log change facts → Extends (learned_of log) (learned_after log change)
+pub step_extends : {C : Type 0} (log : Log C) (change : LogChange C) (facts : List (Fact C)) → IsChangeOf log change facts → Extends (learned_of log) (learned_after log change)
 step_extends log Nothing facts is q some = refl
 step_extends log (Receive p a v) facts is q some = refl
 step_extends {C} log (Learn p c n) facts is q some =

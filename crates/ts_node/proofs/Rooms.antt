@@ -7,7 +7,7 @@ use Rattle.std.proofs.lemmas.Grind.{flat_map-append}
 use Rattle.std.specs.Prelude.{slice_index_or}
 use Rattle.std.specs.List.{AllByRecursion}
 use Rattle.ts_synod.specs.declared.message.Fact.{Fact}
-use Rattle.ts_record.specs.Facts.{AllFit, Fits, encoding, encodings}
+use Rattle.ts_record.specs.Facts.{AllFit, FactFits, fact_encoding, encodings}
 use Rattle.ts_node.proofs.Fits.{all_more}
 
 pub all_second : {X : Type 0} (P : X → Type 0) (xs ys : List X) → AllByRecursion P (xs ++ ys) → AllByRecursion P ys
@@ -18,19 +18,23 @@ module _ {C : Type 0} (octets : C → List ℕ) (facts : List (Fact C)) (i : ℕ
   upto : take (i + 1) facts ≡ take i facts ++ fact ∷ []
   upto = take_more facts i fact within ∙ ap (λ (f : Fact C). take i facts ++ f ∷ []) (sym is)
 
-  pub fit_more : AllFit octets (take i facts) → Fits octets fact → AllFit octets (take (i + 1) facts)
-  fit_more before fits = subst (AllFit octets) (sym upto) (all_more (Fits octets) (take i facts) (fact ∷ []) before (fits, tt))
+  pub fit_more : AllFit octets (take i facts) → FactFits octets fact → AllFit octets (take (i + 1) facts)
+  fit_more before fits = subst (AllFit octets) (sym upto) (all_more (FactFits octets) (take i facts) (fact ∷ []) before (fits, tt))
 
-  pub size_more : (before size more : ℕ) → size ≡ before + length (encodings octets (take i facts)) → more ≡ length (encoding octets fact) → size + more ≡ before + length (encodings octets (take (i + 1) facts))
+  pub size_more : (before size more : ℕ) → size ≡ before + length (encodings octets (take i facts))
+      → more ≡ length (fact_encoding octets fact)
+      → size + more ≡ before + length (encodings octets (take (i + 1) facts))
   size_more before size more e f =
       let all = ap (λ fs. length (encodings octets fs)) upto in
-      let two = ap length (flat_map-append (encoding octets) (take i facts) (fact ∷ [])) in
+      let two = ap length (flat_map-append (fact_encoding octets) (take i facts) (fact ∷ [])) in
       let three = length-append (encodings octets (take i facts)) (encodings octets (fact ∷ [])) in
-      let four = length-append (encoding octets fact) [] in
+      let four = length-append (fact_encoding octets fact) [] in
       omega arith
 
-  pub fit_here : AllFit octets facts → Fits octets fact
-  fit_here all = subst (Fits octets) (sym is) (All-get_or (Fits octets) facts i fact within (All-from_recursion (Fits octets) facts all))
+  pub fit_here : AllFit octets facts → FactFits octets fact
+  fit_here all = subst (FactFits octets) (sym is) (All-get_or (FactFits octets) facts i fact within (All-from_recursion (FactFits octets) facts all))
 
-  pub no_less : length (encodings octets (take i facts)) + length (encoding octets fact) ≤ length (encodings octets facts)
-  no_less = subst (λ (f : Fact C). length (encodings octets (take i facts)) + length (encoding octets f) ≤ length (encodings octets facts)) (sym is) (length-flat_map-take (encoding octets) facts i fact within)
+  pub no_less : length (encodings octets (take i facts)) + length (fact_encoding octets fact) ≤ length (encodings octets facts)
+  no_less = subst (λ (f : Fact C). length (encodings octets (take i facts)) + length
+      (fact_encoding octets f) ≤ length (encodings octets facts)) (sym is)
+      (length-flat_map-take (fact_encoding octets) facts i fact within)

@@ -8,9 +8,9 @@ use Rattle.ts_proposer.specs.declared.proposer.Proposer.{Proposer}
 use Rattle.ts_log.specs.Log as logs
 use Rattle.ts_log.specs.declared.log.Log.{Log}
 use Rattle.ts_node.specs.declared.roles.Roles.{Roles}
-use Rattle.ts_node.specs.Roles.{Unchanged}
+use Rattle.ts_node.specs.inside.Roles.{AreUnchanged}
 
-pub same_acceptor : {C : Type 0} (roles : Roles C) (a : Acceptor C) → acceptors.Unchanged roles.acceptor a → Unchanged roles (record roles { acceptor = a })
+pub same_acceptor : {C : Type 0} (roles : Roles C) (a : Acceptor C) → acceptors.IsUnchanged roles.acceptor a → AreUnchanged roles (record roles { acceptor = a })
 same_acceptor roles a u = record {
   config = refl;
   volatile = refl;
@@ -26,7 +26,7 @@ same_acceptor roles a u = record {
   learned = refl;
 }
 
-pub same_proposer : {C : Type 0} (roles : Roles C) (p : Proposer C) → proposers.Unchanged roles.proposer p → Unchanged roles (record roles { proposer = p })
+pub same_proposer : {C : Type 0} (roles : Roles C) (p : Proposer C) → proposers.IsUnchanged roles.proposer p → AreUnchanged roles (record roles { proposer = p })
 same_proposer {C} roles p u = record {
   config = refl;
   volatile = ap (λ s. let v : Volatile C = record { proposer = s; received = logs.received_of roles.log } in v) u.state;
@@ -42,7 +42,7 @@ same_proposer {C} roles p u = record {
   learned = refl;
 }
 
-pub same_log : {C : Type 0} (roles : Roles C) (l : Log C) → logs.Unchanged roles.log l → Unchanged roles (record roles { log = l })
+pub same_log : {C : Type 0} (roles : Roles C) (l : Log C) → logs.IsUnchanged roles.log l → AreUnchanged roles (record roles { log = l })
 same_log {C} roles l u = record {
   config = refl;
   volatile = ap (λ r. let v : Volatile C = record { proposer = proposers.state_of roles.proposer; received = r } in v) u.received;

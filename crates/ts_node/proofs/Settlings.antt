@@ -3,7 +3,7 @@ use Rattle.std.proofs.Common.{arith, nat_le, ◌+◌, ◌<◌, ◌≡◌, ◌∙
 use Rattle.std.proofs.lemmas.List.{take-append-drop}
 use Rattle.std.proofs.lemmas.Bool.Decides.{Decides-eqb, nat_tests}
 use Rattle.ts_synod.proofs.Sets.{and_true, by_test}
-use Rattle.ts_synod.specs.Store.{Settling, Store, found, same_id, settling}
+use Rattle.ts_synod.specs.Store.{Settling, Store, found_command, same_id, settling}
 use Rattle.ts_synod.specs.Config.{Config}
 use Rattle.ts_synod.specs.Log.{last_position, next_position, prefix}
 use Rattle.ts_synod.specs.Node.{position_for}
@@ -36,15 +36,20 @@ module _ {C O T Q V : Type 0} (store : Store C O T Q V) (id : List ℕ) where
   test true s rest more e = refl
   test false s rest more e = e
 
-  found_any : (t : T) (p : ℕ) (cs : List C) → is_some (found store id t p cs) ≡ has_id store.id_of id cs
+  found_any : (t : T) (p : ℕ) (cs : List C) → is_some (found_command store id t p cs) ≡ has_id store.id_of id cs
   found_any t p [] = refl
-  found_any t p (c ∷ cs) = test (same_id (store.id_of c) id) (record { position = p; outcome = (store.step t c).1 }) (found store id (store.step t c).0 (suc p) cs) (has_id store.id_of id cs) (found_any (store.step t c).0 (suc p) cs)
+  found_any t p (c ∷ cs) =
+      test (same_id (store.id_of c) id) (record { position = p; outcome = (store.step t c).1 })
+      (found_command store id (store.step t c).0 (suc p) cs) (has_id store.id_of id cs)
+      (found_any (store.step t c).0 (suc p) cs)
 
   has_first : (xs ys : List C) → has_id store.id_of id xs ≡ true → has_id store.id_of id (xs ++ ys) ≡ true
   has_first [] ys h = absurd (cc)
   has_first (x ∷ xs) ys h = go (has_first xs ys) (same_id (store.id_of x) id) h
     where
-      go : (has_id store.id_of id xs ≡ true → has_id store.id_of id (xs ++ ys) ≡ true) → (b : Bool) → (if b then true else has_id store.id_of id xs) ≡ true → (if b then true else has_id store.id_of id (xs ++ ys)) ≡ true
+      go : (has_id store.id_of id xs ≡ true → has_id store.id_of id (xs ++ ys) ≡ true) → (b : Bool)
+          → (if b then true else has_id store.id_of id xs) ≡ true
+          → (if b then true else has_id store.id_of id (xs ++ ys)) ≡ true
       go rest true e = refl
       go rest false e = rest e
 
@@ -52,7 +57,10 @@ module _ {C O T Q V : Type 0} (store : Store C O T Q V) (id : List ℕ) where
   has_second [] ys h = refl
   has_second (x ∷ xs) ys h = go (has_second xs ys) (same_id (store.id_of x) id) h
     where
-      go : (has_id store.id_of id xs ≡ false → has_id store.id_of id (xs ++ ys) ≡ has_id store.id_of id ys) → (b : Bool) → (if b then true else has_id store.id_of id xs) ≡ false → (if b then true else has_id store.id_of id (xs ++ ys)) ≡ has_id store.id_of id ys
+      go : (has_id store.id_of id xs ≡ false
+          → has_id store.id_of id (xs ++ ys) ≡ has_id store.id_of id ys) → (b : Bool)
+          → (if b then true else has_id store.id_of id xs) ≡ false
+          → (if b then true else has_id store.id_of id (xs ++ ys)) ≡ has_id store.id_of id ys
       go rest true e = absurd (cc)
       go rest false e = rest e
 
@@ -65,7 +73,10 @@ module _ {C O T Q V : Type 0} (store : Store C O T Q V) (id : List ℕ) where
       found_any store.empty 1 (prefix g) ∙ ap (has_id store.id_of id) (split f g more) ∙ has_first (prefix f) (drop (length (prefix f)) (prefix g)) (sym (found_any store.empty 1 (prefix f)) ∙ h)
 
   -- one that was not found is found where one of those that join has it
-  pub settled_second : (f g : ℕ → Option C) → Extends f g → is_some (settling store (prefix f) id) ≡ false → is_some (settling store (prefix g) id) ≡ has_id store.id_of id (drop (length (prefix f)) (prefix g))
+  pub settled_second : (f g : ℕ → Option C) → Extends f g
+      → is_some (settling store (prefix f) id) ≡ false
+      → is_some (settling store (prefix g) id) ≡ has_id store.id_of id
+      (drop (length (prefix f)) (prefix g))
   settled_second f g more h =
       found_any store.empty 1 (prefix g) ∙ ap (has_id store.id_of id) (split f g more) ∙ has_second (prefix f) (drop (length (prefix f)) (prefix g)) (sym (found_any store.empty 1 (prefix f)) ∙ h)
 
@@ -74,10 +85,14 @@ some_as None = refl
 some_as (Some s) = refl
 
 -- where the wanted command can be proposed
-pub no_position : {C O T Q V : Type 0} (store : Store C O T Q V) (config : Config) (g : ℕ → Option C) (c : C) → is_some (settling store (prefix g) (store.id_of c)) ≡ true → position_for store config g c ≡ None
+pub no_position : {C O T Q V : Type 0} (store : Store C O T Q V) (config : Config)
+    (g : ℕ → Option C) (c : C) → is_some (settling store (prefix g) (store.id_of c)) ≡ true
+    → position_for store config g c ≡ None
 no_position store config g c h = ap (λ (b : Bool). if b then None else next_position g) h
 
-pub a_position : {C O T Q V : Type 0} (store : Store C O T Q V) (config : Config) (g : ℕ → Option C) (c : C) → is_some (settling store (prefix g) (store.id_of c)) ≡ false → position_for store config g c ≡ next_position g
+pub a_position : {C O T Q V : Type 0} (store : Store C O T Q V) (config : Config) (g : ℕ → Option C)
+    (c : C) → is_some (settling store (prefix g) (store.id_of c)) ≡ false
+    → position_for store config g c ≡ next_position g
 a_position store config g c h = ap (λ (b : Bool). if b then None else next_position g) h
 
 pub next_some : {C : Type 0} (g : ℕ → Option C) (n : ℕ) → n ≡ length (prefix g) → n < 1000000 → Some (n + 1) ≡ next_position g
@@ -87,8 +102,12 @@ next_some {C} g n is low =
     (λ _. let e : n + 1 ≡ suc (length (prefix g)) = omega arith in ap (λ k. Some k) e)
 
 -- one of the commands that join the prefix
-pub join_hit : {C : Type 0} (id_of : C → List ℕ) (id : List ℕ) (g : ℕ → Option C) (i : ℕ) (c : C) → i < length (prefix g) → g (i + 1) ≡ Some c → same_id (id_of c) id ≡ true → has_id id_of id (drop i (prefix g)) ≡ true
+pub join_hit : {C : Type 0} (id_of : C → List ℕ) (id : List ℕ) (g : ℕ → Option C) (i : ℕ) (c : C)
+    → i < length (prefix g) → g (i + 1) ≡ Some c → same_id (id_of c) id ≡ true
+    → has_id id_of id (drop i (prefix g)) ≡ true
 join_hit id_of id g i c l is hit = ap (has_id id_of id) (prefix_drop g i c l is) ∙ ap (λ (b : Bool). if b then true else has_id id_of id (drop (i + 1) (prefix g))) hit
 
-pub join_miss : {C : Type 0} (id_of : C → List ℕ) (id : List ℕ) (g : ℕ → Option C) (i : ℕ) (c : C) → i < length (prefix g) → g (i + 1) ≡ Some c → same_id (id_of c) id ≡ false → has_id id_of id (drop i (prefix g)) ≡ has_id id_of id (drop (i + 1) (prefix g))
+pub join_miss : {C : Type 0} (id_of : C → List ℕ) (id : List ℕ) (g : ℕ → Option C) (i : ℕ) (c : C)
+    → i < length (prefix g) → g (i + 1) ≡ Some c → same_id (id_of c) id ≡ false
+    → has_id id_of id (drop i (prefix g)) ≡ has_id id_of id (drop (i + 1) (prefix g))
 join_miss id_of id g i c l is miss = ap (has_id id_of id) (prefix_drop g i c l is) ∙ ap (λ (b : Bool). if b then true else has_id id_of id (drop (i + 1) (prefix g))) miss

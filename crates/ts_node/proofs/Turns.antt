@@ -74,7 +74,10 @@ module _ {C O T Q V : Type 0} (store : Store C O T Q V) (config : Config) where
   abbrev pub next : world.Node C → List (Message C) → Effect C → world.Input C Q → Effect C
   next node sent e input = (step store config (node_with (node.facts ++ e.facts) e.volatile) (sent ++ e.messages) input).effect
 
-  next_same : (node other : world.Node C) (sent more : List (Message C)) (e f : Effect C) (input : world.Input C Q) → node.facts ++ e.facts ≡ other.facts ++ f.facts → sent ++ e.messages ≡ more ++ f.messages → e.volatile ≡ f.volatile → next node sent e input ≡ next other more f input
+  next_same : (node other : world.Node C) (sent more : List (Message C)) (e f : Effect C)
+      (input : world.Input C Q) → node.facts ++ e.facts ≡ other.facts ++ f.facts → sent
+      ++ e.messages ≡ more ++ f.messages → e.volatile ≡ f.volatile
+      → next node sent e input ≡ next other more f input
   next_same node other sent more e f input a b v = λ i. (step store config (node_with (a i) (v i)) (b i) input).effect
 
   -- a turn with one input more
@@ -90,7 +93,10 @@ module _ {C O T Q V : Type 0} (store : Store C O T Q V) (config : Config) where
       let t = turn store config (node_after node s) (sent ++ s.effect.messages) inputs in
       ap (and_then s.effect) (turn_more inputs (node_after node s) (sent ++ s.effect.messages) input)
       ∙ and_then_assoc s.effect t.effect (next (node_after node s) (sent ++ s.effect.messages) t.effect input)
-      ∙ ap (and_then (and_then s.effect t.effect)) (next_same (node_after node s) node (sent ++ s.effect.messages) sent t.effect (and_then s.effect t.effect) input (append_assoc node.facts s.effect.facts t.effect.facts) (append_assoc sent s.effect.messages t.effect.messages) refl)
+      ∙ ap (and_then (and_then s.effect t.effect))
+      (next_same (node_after node s) node (sent ++ s.effect.messages) sent t.effect
+      (and_then s.effect t.effect) input (append_assoc node.facts s.effect.facts t.effect.facts)
+      (append_assoc sent s.effect.messages t.effect.messages) refl)
 
   -- the turn of one input
   pub turn_one : (node : world.Node C) (sent : List (Message C)) (input : world.Input C Q) → (turn store config node sent (input ∷ [])).effect ≡ (step store config node sent input).effect

@@ -18,13 +18,14 @@ use Rattle.ts_node.specs.declared.input.Input.TheVariants as kinds
 use Rattle.ts_node.specs.declared.input.Output.{Output}
 use Rattle.ts_node.specs.declared.input.Reply.{Reply}
 use Rattle.ts_node.specs.declared.plan.Plan.{Plan}
-use Rattle.ts_node.specs.declared.turn.Staged.{Staged}
-use Rattle.ts_node.specs.declared.input.NodeFault.{NodeFault}
-use Rattle.ts_node.specs.declared.input.NodeFault.TheVariants as faults
+use Rattle.ts_node.specs.declared.turn.StagedFacts.{StagedFacts}
+use Rattle.ts_synod.specs.declared.fault.NodeFault.{NodeFault}
+use Rattle.ts_synod.specs.declared.fault.NodeFault.TheVariants as faults
 use Rattle.ts_node.specs.Inputs.{IsInput}
 use Rattle.ts_node.specs.Node.{IsSame, Moments, config, facts, is_broken, volatile}
-use Rattle.ts_node.specs.Roles.{facts_in}
-use Rattle.ts_node.specs.Staged.{AreReady, HasBegun, IsStaged, Keeps}
+use Rattle.ts_node.specs.inside.Roles.{facts_in}
+use Rattle.ts_node.specs.Staged.{AreReady, IsStaged, Keeps}
+use Rattle.ts_node.specs.inside.Staged.{HasBegun}
 use Rattle.ts_node.specs.Turn.{DoesTurn, EndsBehind, FitTogether, IsFirst, IsTurn, given_out}
 use Rattle.ts_node.specs.Turn.{inputs_of}
 
@@ -53,7 +54,7 @@ holding node more = record node { kept = record node.kept { facts = node.kept.fa
 -- The node's record, and roles that are ahead of it by the facts that wait to be kept; where the
 -- node is not broken.
 abbrev pub IsAhead : {D C M : Type 0} → (D → State) → (C → List ℕ) → (M → List C) → Node D C M
-    → Staged C → Type 0
+    → StagedFacts C → Type 0
 IsAhead state octets commands node staged = is_broken node ≡ false
     → IsStaged state octets commands node staged.facts.items × AreReady octets staged
 

@@ -13,8 +13,8 @@ use Rattle.ts_node.specs.declared.node.Node.{Node}
 use Rattle.ts_node.specs.declared.input.Input.{Input}
 use Rattle.ts_node.specs.declared.input.Input.TheVariants as inputs
 use Rattle.ts_node.specs.declared.input.Output.{Output}
-use Rattle.ts_node.specs.declared.input.NodeFault.{NodeFault}
-use Rattle.ts_node.specs.declared.input.NodeFault.TheVariants as faults
+use Rattle.ts_synod.specs.declared.fault.NodeFault.{NodeFault}
+use Rattle.ts_synod.specs.declared.fault.NodeFault.TheVariants as faults
 use Rattle.ts_node.specs.Ahead.{AreBehind, IsKept}
 use Rattle.ts_node.specs.Inputs.{IsInput}
 use Rattle.ts_node.specs.Node.{IsSound, is_broken}

@@ -14,11 +14,11 @@ use Rattle.ts_node.specs.declared.node.Node.{Node}
 use Rattle.ts_node.specs.declared.input.Input.{Input}
 use Rattle.ts_node.specs.declared.input.Input.TheVariants as inputs
 use Rattle.ts_node.specs.declared.input.Output.{Output}
-use Rattle.ts_node.specs.declared.input.NodeFault.{NodeFault}
-use Rattle.ts_node.specs.declared.input.NodeFault.TheVariants.{DiskFailed, Broken}
-use Rattle.ts_node.specs.declared.input.NodeFault.TheVariants.{GenerationsExhausted}
+use Rattle.ts_synod.specs.declared.fault.NodeFault.{NodeFault}
+use Rattle.ts_synod.specs.declared.fault.NodeFault.TheVariants.{DiskFailed, Broken}
+use Rattle.ts_synod.specs.declared.fault.NodeFault.TheVariants.{GenerationsExhausted}
 use Rattle.ts_node.specs.Inputs.{IsInput}
-use Rattle.ts_node.specs.Node.{Compacts, Failed, Handles, Moments, config, facts, is_broken}
+use Rattle.ts_node.specs.Node.{Compacts, HasFailed, Handles, Moments, config, facts, is_broken}
 use Rattle.ts_node.specs.Node.{owner, volatile}
 
 -- What stands behind a node: its disks and the encoding of its commands, the store of the world,
@@ -61,5 +61,5 @@ module _ {D C M O Q A B : Type 0} (state : D → State) (octets : C → List ℕ
     -- A node that answered is not broken.
     pub whole : OnOk result (is_broken new ≡ false)
     -- After a device failed the node is broken, and does nothing more.
-    pub failed : IsErrOf result DiskFailed → (new.kept.broken ≡ true) × Failed state old new
+    pub failed : IsErrOf result DiskFailed → (new.kept.broken ≡ true) × HasFailed state old new
     pub broken : is_broken old ≡ true → IsErrOf result Broken × (new ≡ old)

@@ -9,11 +9,11 @@ use Rattle.ts_record.specs.Facts.{IsBallot, IsPosition}
 use Rattle.ts_node.specs.declared.input.Input.{Input}
 use Rattle.ts_node.specs.declared.input.Input.TheVariants as inputs
 use Rattle.ts_node.specs.declared.input.Reply.{Reply}
-use Rattle.ts_node.specs.declared.input.NodeFault.{NodeFault}
-use Rattle.ts_node.specs.declared.input.NodeFault.TheVariants as faults
+use Rattle.ts_synod.specs.declared.fault.NodeFault.{NodeFault}
+use Rattle.ts_synod.specs.declared.fault.NodeFault.TheVariants as faults
 use Rattle.ts_node.specs.declared.plan.Plan.{Plan}
 use Rattle.ts_node.specs.declared.roles.Roles.{Roles}
-use Rattle.ts_node.specs.Roles.{Makes}
+use Rattle.ts_node.specs.inside.Roles.{Makes}
 use Rattle.ts_node.specs.declared.input.Reply.TheVariants as replies
 
 -- the event's input is this one, where a delivered message is the one of its number among all sent.
@@ -29,19 +29,20 @@ IsInput sent input other = ⊥
 
 -- The reply says what the world's does. An answer is one to the question, after the commands that
 -- the world's reply names.
-abbrev pub IsReply : {C O Q A : Type 0} → (List C → Q → A → Type 0) → Reply O A
+abbrev pub SaysReply : {C O Q A : Type 0} → (List C → Q → A → Type 0) → Reply O A
     → world.Reply O Q (List C) → Type 0
-IsReply is_answer replies.Done world.Done = Unit {0}
-IsReply is_answer (replies.Started p b) (world.Started position ballot) =
+SaysReply is_answer replies.Done world.Done = Unit {0}
+SaysReply is_answer (replies.Started p b) (world.Started position ballot) =
     (p ≡ position) × (b ≡ ballot)
-IsReply is_answer (replies.Settled p o) (world.Settled id position outcome) =
+SaysReply is_answer (replies.Settled p o) (world.Settled id position outcome) =
     (p ≡ position) × (o ≡ outcome)
-IsReply is_answer replies.Unknown (world.Unknown id) = Unit {0}
-IsReply is_answer (replies.NotYet k m) (world.NotYet at' question prefix) = (k ≡ at') × (m ≡ prefix)
-IsReply is_answer (replies.Answered k a) (world.Answered at' question commands) =
+SaysReply is_answer replies.Unknown (world.Unknown id) = Unit {0}
+SaysReply is_answer (replies.NotYet k m) (world.NotYet at' question prefix) = (k ≡ at')
+    × (m ≡ prefix)
+SaysReply is_answer (replies.Answered k a) (world.Answered at' question commands) =
     (k ≡ at') × is_answer commands question a
-IsReply is_answer (replies.Prefix m) (world.Prefix prefix) = m ≡ prefix
-IsReply is_answer reply other = ⊥
+SaysReply is_answer (replies.Prefix m) (world.Prefix prefix) = m ≡ prefix
+SaysReply is_answer reply other = ⊥
 
 -- a command has an encoding, which leaves room for the other fields in a record's body
 pub record IsShort (octets : List ℕ) : Type 0 where
@@ -73,7 +74,7 @@ InputFits octets inputs.Compact = Unit {0}
 abbrev pub Submits : {C O Q A : Type 0} → (List C → Q → A → Type 0) → Roles C
     → Result (Plan C × Reply O A) NodeFault → world.Step C O Q (List C) → Type 0
 Submits is_answer roles (Ok made) step =
-    Makes roles made.0 step.effect × IsReply is_answer made.1 step.reply
+    Makes roles made.0 step.effect × SaysReply is_answer made.1 step.reply
 Submits is_answer roles (Err faults.RoundsExhausted) step = step.reply ≡ world.RoundsExhausted
 Submits is_answer roles (Err faults.PositionsExhausted) step = step.reply ≡ world.PositionsExhausted
 Submits is_answer roles (Err faults.Memory) step = Unit {0}

@@ -9,3 +9,4 @@ pub mod Staged
 pub mod Ahead
 pub mod Run
 pub mod Allowed
+pub mod inside

@@ -10,16 +10,16 @@ use Rattle.ts_synod.specs.Node as world
 use Rattle.ts_record.specs.Facts.{OpensTo}
 use Rattle.ts_record.specs.Record.{EitherFailed, OpensToFrom}
 use Rattle.ts_node.specs.declared.node.Node.{Node}
-use Rattle.ts_record.specs.declared.fault.Fault.{Fault}
-use Rattle.ts_record.specs.declared.fault.Fault.TheVariants as record_faults
-use Rattle.ts_node.specs.declared.input.NodeFault.{NodeFault}
-use Rattle.ts_node.specs.declared.input.NodeFault.TheVariants as faults
+use Rattle.ts_record.specs.declared.fault.RecordFault.{RecordFault}
+use Rattle.ts_record.specs.declared.fault.RecordFault.TheVariants as record_faults
+use Rattle.ts_synod.specs.declared.fault.NodeFault.{NodeFault}
+use Rattle.ts_synod.specs.declared.fault.NodeFault.TheVariants as faults
 use Rattle.ts_node.specs.declared.input.Output.{Output}
 use Rattle.ts_node.specs.declared.input.Reply.TheVariants as replies
 use Rattle.ts_record.specs.Kept.{course, member}
 use Rattle.ts_record.specs.Rewrite.{Steps}
 use Rattle.ts_record.specs.declared.progress.Progress.{Progress}
-use Rattle.ts_node.specs.Inputs.{IsReply}
+use Rattle.ts_node.specs.Inputs.{SaysReply}
 use Rattle.ts_node.specs.Growing.{IsPart}
 use Rattle.ts_node.specs.Roles.{StandFor, config_of, volatile_of}
 
@@ -77,12 +77,12 @@ Moments state octets old more new = EveryPair (ToEither octets (owner old) (fact
     (state old.kept.a) (state old.kept.b) (state new.kept.a) (state new.kept.b)
 
 -- one of the two devices failed in a call
-abbrev pub Failed : {D C M : Type 0} → (D → State) → Node D C M → Node D C M → Type 0
-Failed state old new = EitherFailed (state old.kept.a) (state old.kept.b) (state new.kept.a)
+abbrev pub HasFailed : {D C M : Type 0} → (D → State) → Node D C M → Node D C M → Type 0
+HasFailed state old new = EitherFailed (state old.kept.a) (state old.kept.b) (state new.kept.a)
     (state new.kept.b)
 
 -- a record's fault, in a call of a node
-abbrev pub fault_as : Fault → NodeFault
+abbrev pub fault_as : RecordFault → NodeFault
 fault_as record_faults.Memory = faults.Memory
 fault_as record_faults.DiskFailed = faults.DiskFailed
 fault_as record_faults.Broken = faults.Broken
@@ -104,7 +104,7 @@ pub record Does {D C M O Q A : Type 0} (is_answer : List C → Q → A → Type 
   pub facts : facts new ≡ facts old ++ step.effect.facts
   pub volatile : volatile new ≡ step.effect.volatile
   pub messages : output.messages.items ≡ step.effect.messages
-  pub reply : IsReply is_answer output.reply step.reply
+  pub reply : SaysReply is_answer output.reply step.reply
 
 -- A call answers what the world does, or a fault. RoundsExhausted and PositionsExhausted are
 -- answered exactly where the world's reply is that, and a fault other than that of a device changes

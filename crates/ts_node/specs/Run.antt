@@ -6,7 +6,7 @@ use Rattle.ts_synod.specs.declared.message.Message.{Message}
 use Rattle.ts_synod.specs.Config.{is_node}
 use Rattle.ts_synod.specs.Force.{SameForce, learned_command}
 use Rattle.ts_synod.specs.Laws.{FirstChosen, IsChosen, RightOutcome, node_with}
-use Rattle.ts_synod.specs.Lists.{Has, put}
+use Rattle.ts_synod.specs.Lists.{Has, update_at}
 use Rattle.ts_synod.specs.Store.{Store}
 use Rattle.ts_synod.specs.Turn.{Turn, turn}
 use Rattle.ts_synod.specs.World.{Event, World, after_events, after_run, config_of, start_world}
@@ -37,36 +37,48 @@ pub record Group (D C M O Q A : Type 0) : Type 0 where
 
 -- What happens at node i, and the node then.
 pub data Happening (D C M O Q A : Type 0) : Type 0 where
-  called : (i : ℕ) → (input : Input C Q) → (output : Output C O A) → (new : Node D C M) → Happening D C M O Q A  -- a call answers
-  turned : (i : ℕ) → (input : Input C Q) → (output : Output C O A) → (made : List (Message C)) → (new : Node D C M) → Happening D C M O Q A  -- a turn answers, which made these messages, those to the node itself too
-  refused : (i : ℕ) → (new : Node D C M) → Happening D C M O Q A  -- a call answers a fault other than that of a device
-  rewritten : (i : ℕ) → (output : Output C O A) → (new : Node D C M) → Happening D C M O Q A  -- a compaction makes a step
-  reopened : (i : ℕ) → (a b : List ℕ) → (new : Node D C M) → Happening D C M O Q A  -- it stops between two calls or within a compaction, and is opened on these images
-  stopped : (i : ℕ) → (input : Input C Q) → (a b : List ℕ) → (new : Node D C M) → Happening D C M O Q A  -- it stops within a call, or a device fails, and is opened on these images
-  cut : (i : ℕ) → (input : Input C Q) → (made : List (Message C)) → (a b : List ℕ) → (new : Node D C M) → Happening D C M O Q A  -- it stops within a turn whose facts are all kept, and is opened on these images
+  -- a call answers
+  called : (i : ℕ) → (input : Input C Q) → (output : Output C O A) → (new : Node D C M)
+      → Happening D C M O Q A
+  -- a turn answers, which made these messages, those to the node itself too
+  turned : (i : ℕ) → (input : Input C Q) → (output : Output C O A) → (made : List (Message C))
+      → (new : Node D C M) → Happening D C M O Q A
+  -- a call answers a fault other than that of a device
+  refused : (i : ℕ) → (new : Node D C M) → Happening D C M O Q A
+  -- a compaction makes a step
+  rewritten : (i : ℕ) → (output : Output C O A) → (new : Node D C M) → Happening D C M O Q A
+  -- it stops between two calls or within a compaction, and is opened on these images
+  reopened : (i : ℕ) → (a b : List ℕ) → (new : Node D C M) → Happening D C M O Q A
+  -- it stops within a call, or a device fails, and is opened on these images
+  stopped : (i : ℕ) → (input : Input C Q) → (a b : List ℕ) → (new : Node D C M)
+      → Happening D C M O Q A
+  -- it stops within a turn whose facts are all kept, and is opened on these images
+  cut : (i : ℕ) → (input : Input C Q) → (made : List (Message C)) → (a b : List ℕ)
+      → (new : Node D C M) → Happening D C M O Q A
 
 abbrev pub after : {D C M O Q A : Type 0} → Group D C M O Q A → Happening D C M O Q A
     → Group D C M O Q A
 after s (called i input output new) = record {
-  nodes = put s.nodes i new;
+  nodes = update_at s.nodes i new;
   sent = s.sent ++ output.messages.items;
   given = s.given
       ++ record { input = input; reply = output.reply } ∷ [];
 }
 after s (turned i input output made new) = record {
-  nodes = put s.nodes i new;
+  nodes = update_at s.nodes i new;
   sent = s.sent ++ made;
   given = s.given
       ++ record { input = input; reply = output.reply } ∷ [];
 }
-after s (refused i new) = record { nodes = put s.nodes i new; sent = s.sent; given = s.given }
+after s (refused i new) = record { nodes = update_at s.nodes i new; sent = s.sent; given = s.given }
 after s (rewritten i output new) =
-    record { nodes = put s.nodes i new; sent = s.sent; given = s.given }
-after s (reopened i a b new) = record { nodes = put s.nodes i new; sent = s.sent; given = s.given }
+    record { nodes = update_at s.nodes i new; sent = s.sent; given = s.given }
+after s (reopened i a b new) = record
+    { nodes = update_at s.nodes i new; sent = s.sent; given = s.given }
 after s (stopped i input a b new) =
-    record { nodes = put s.nodes i new; sent = s.sent; given = s.given }
+    record { nodes = update_at s.nodes i new; sent = s.sent; given = s.given }
 after s (cut i input made a b new) =
-    record { nodes = put s.nodes i new; sent = s.sent ++ made; given = s.given }
+    record { nodes = update_at s.nodes i new; sent = s.sent ++ made; given = s.given }
 
 abbrev pub after_all : {D C M O Q A : Type 0} → Group D C M O Q A → List (Happening D C M O Q A)
     → Group D C M O Q A
@@ -195,7 +207,7 @@ events_of (es ∷ rest) = es ++ events_of rest
 -- - each id is settled at the first position that has it among the chosen commands, with the
 --   outcome there;
 -- - each chosen command was handed in.
-pub record Promised {D C M O Q A : Type 0} (store : Store C O (List C) Q (List C))
+pub record RunPromises {D C M O Q A : Type 0} (store : Store C O (List C) Q (List C))
     (is_answer : List C → Q → A → Type 0) (n : ℕ) (start : Group D C M O Q A)
     (run : List (Happening D C M O Q A)) : Type 0 where
   pub moments : List (List (Event C Q))

@@ -23,10 +23,10 @@ use Rattle.ts_node.specs.declared.input.Input.{Input}
 use Rattle.ts_node.specs.declared.input.Input.TheVariants as inputs
 use Rattle.ts_node.specs.declared.input.Output.{Output}
 use Rattle.ts_node.specs.declared.input.Reply.{Reply}
-use Rattle.ts_node.specs.declared.input.NodeFault.{NodeFault}
-use Rattle.ts_node.specs.declared.input.NodeFault.TheVariants as faults
-use Rattle.ts_node.specs.Inputs.{IsInput, IsReply}
-use Rattle.ts_node.specs.Node.{Compacts, Failed, Handles, IsSame, Moments, config, facts}
+use Rattle.ts_synod.specs.declared.fault.NodeFault.{NodeFault}
+use Rattle.ts_synod.specs.declared.fault.NodeFault.TheVariants as faults
+use Rattle.ts_node.specs.Inputs.{IsInput, SaysReply}
+use Rattle.ts_node.specs.Node.{Compacts, HasFailed, Handles, IsSame, Moments, config, facts}
 use Rattle.ts_node.specs.Node.{is_broken, owner, volatile}
 
 -- the numbers of the messages to node `me`, where the first of all has this number
@@ -59,7 +59,7 @@ FitTogether octets facts = AllFit octets facts × (length (encodings octets fact
 abbrev pub SaysFirst : {C O Q A : Type 0} → (List C → Q → A → Type 0) → Reply O A
     → List (world.Reply O Q (List C)) → Type 0
 SaysFirst is_answer reply [] = ⊥
-SaysFirst is_answer reply (r ∷ rs) = IsReply is_answer reply r
+SaysFirst is_answer reply (r ∷ rs) = SaysReply is_answer reply r
 
 abbrev pub IsFirst : {C O Q : Type 0} → world.Reply O Q (List C)
     → List (world.Reply O Q (List C)) → Type 0
@@ -128,7 +128,7 @@ module _ {D C M O Q A B : Type 0} (state : D → State) (octets : C → List ℕ
   -- A turn of the world's node, at these facts and with these messages sent before: its messages
   -- are those that were made, and it takes, after the event, those to the node itself among the
   -- first so many.
-  pub record Turned (old : Node D C M) (event : world.Input C Q)
+  pub record IsTurnOf (old : Node D C M) (event : world.Input C Q)
       (result : Result (Output C O A) NodeFault) (new : Node D C M) (looked : ℕ)
       (made : List (Message C)) (kept : List (Fact C)) (sent : List (Message C)) : Type 0 where
     pub handles : HandlesTurn (is_answer (basis old.machine)) old result made new
@@ -158,7 +158,7 @@ module _ {D C M O Q A B : Type 0} (state : D → State) (octets : C → List ℕ
     pub turned : is_broken old ≡ false
         → (kept : List (Fact C)) (sent : List (Message C)) (event : world.Input C Q)
         → SameForce kept (facts old) → IsInput sent input event
-        → Turned old event result new looked made kept sent
+        → IsTurnOf old event result new looked made kept sent
     -- A message to the node itself that it took is not given out.
     pub given : IfOk result (λ output. output.messages.items
         ≡ given_out (config old).me looked made)
@@ -172,5 +172,5 @@ module _ {D C M O Q A B : Type 0} (state : D → State) (octets : C → List ℕ
     pub same_basis : basis new.machine ≡ basis old.machine
     pub whole : OnOk result (is_broken new ≡ false)
     pub failed : IsErrOf result faults.DiskFailed
-        → (new.kept.broken ≡ true) × Failed state old new
+        → (new.kept.broken ≡ true) × HasFailed state old new
     pub broken : is_broken old ≡ true → IsErrOf result faults.Broken × (new ≡ old)

@@ -5,18 +5,18 @@ ghost use Rattle.ts_node.specs.Ahead.{IsAhead, IsKept, IsNext, IsPlanned, IsStag
 ghost use Rattle.ts_node.specs.Inputs.{InputFits};
 ghost use Rattle.ts_node.specs.Machine.{store_of};
 ghost use Rattle.ts_node.specs.Node.{IsSound, config};
-ghost use Rattle.ts_node.specs.Roles.{IsLatest};
+ghost use Rattle.ts_node.specs.inside.Roles.{IsLatest};
 ghost use Rattle.ts_node.specs.Staged.{AreReady, IsStaged};
 
-use crate::input::{Input, NodeFault, Output, Reply};
+use crate::input::{Input, Output, Reply};
 use crate::machine::Machine;
 use crate::node::Node;
 use crate::plan::Plan;
 use crate::room::room_for;
-use crate::turn::Staged;
+use crate::turn::StagedFacts;
 use std::mem::replace;
 use ts_disk::Disk;
-use ts_synod::{Codec, Command};
+use ts_synod::{Codec, Command, NodeFault};
 
 impl<D: Disk, C: Command + Codec, M: Machine<C>> Node<D, C, M> {
     /// Takes an input as `turn` does, but that its facts wait, behind those of the inputs before
@@ -26,7 +26,7 @@ impl<D: Disk, C: Command + Codec, M: Machine<C>> Node<D, C, M> {
     pub fn stage(
         &mut self,
         input: &Input<C, M::Question>,
-        staged: &mut Staged<C>,
+        staged: &mut StagedFacts<C>,
     ) -> Result<Output<C, M::Outcome, M::Answer>, NodeFault>
         requires ahead { IsAhead D.state C.octets M.commands self.old staged.old }
         requires fits { InputFits C.octets input.now }
@@ -55,7 +55,7 @@ impl<D: Disk, C: Command + Codec, M: Machine<C>> Node<D, C, M> {
     ///
     /// `DiskFailed`, and `Broken` where memory was refused: the node is broken then, and what was
     /// answered is void.
-    pub fn keep_staged(&mut self, staged: &mut Staged<C>) -> Result<(), NodeFault>
+    pub fn keep_staged(&mut self, staged: &mut StagedFacts<C>) -> Result<(), NodeFault>
         requires ahead { IsAhead D.state C.octets M.commands self.old staged.old }
         ensures kept { IsKept D.state C.octets self.old staged.old.facts.items result
             staged.new.facts.items self.new }
@@ -65,7 +65,7 @@ impl<D: Disk, C: Command + Codec, M: Machine<C>> Node<D, C, M> {
         if self.is_broken() {
             return Err(NodeFault::Broken);
         }
-        let waiting = replace(staged, Staged::empty(self.alloc));
+        let waiting = replace(staged, StagedFacts::empty(self.alloc));
         self.append_staged(waiting)
     }
 
@@ -74,7 +74,7 @@ impl<D: Disk, C: Command + Codec, M: Machine<C>> Node<D, C, M> {
     fn stage_input(
         &mut self,
         input: &Input<C, M::Question>,
-        staged: &mut Staged<C>,
+        staged: &mut StagedFacts<C>,
     ) -> Result<Option<Output<C, M::Outcome, M::Answer>>, NodeFault>
         requires still { self.old.ahead ≡ false }
         requires staged { IsStaged D.state C.octets M.commands self.old staged.old.facts.items }
@@ -96,11 +96,12 @@ impl<D: Disk, C: Command + Codec, M: Machine<C>> Node<D, C, M> {
         }
     }
 
-    /// The same of an input that is no compaction.
+    /// Takes an input that is no compaction in memory, behind facts that are to be kept together
+    /// with its own. `None` where a record can't keep its facts together with those.
     fn stage_event(
         &mut self,
         input: &Input<C, M::Question>,
-        staged: &mut Staged<C>,
+        staged: &mut StagedFacts<C>,
     ) -> Result<Option<Output<C, M::Outcome, M::Answer>>, NodeFault>
         requires still { self.old.ahead ≡ false }
         requires staged { IsStaged D.state C.octets M.commands self.old staged.old.facts.items }
@@ -122,12 +123,13 @@ impl<D: Disk, C: Command + Codec, M: Machine<C>> Node<D, C, M> {
         }
     }
 
-    /// The same of a plan.
+    /// Takes what a plan says in memory, behind facts that are to be kept together with its own.
+    /// `None` where a record can't keep its facts together with those.
     fn stage_plan(
         &mut self,
         plan: Plan<C>,
         reply: Reply<M::Outcome, M::Answer>,
-        staged: &mut Staged<C>,
+        staged: &mut StagedFacts<C>,
     ) -> Result<Option<Output<C, M::Outcome, M::Answer>>, NodeFault>
         requires still { self.old.ahead ≡ false }
         requires staged { IsStaged D.state C.octets M.commands self.old staged.old.facts.items }

@@ -12,7 +12,8 @@ ghost use Rattle.ts_log.specs.Log.{learned_of};
 ghost use Rattle.ts_log.specs.Steps as log_steps;
 ghost use Rattle.ts_node.specs.Machine.{store_of};
 ghost use Rattle.ts_node.specs.Growing.{IsPart, has_id};
-ghost use Rattle.ts_node.specs.Roles.{IsLatest, Makes, StandFor, Unchanged, config_of, volatile_of};
+ghost use Rattle.ts_node.specs.Roles.{StandFor, config_of, volatile_of};
+ghost use Rattle.ts_node.specs.inside.Roles.{IsLatest, Makes, AreUnchanged};
 
 use crate::feeding::feed;
 use crate::machine::Machine;
@@ -20,7 +21,7 @@ use crate::plan::{Move, Plan};
 use crate::roles::Roles;
 use std::alloc::{AllocError, Global};
 use std::mem::replace;
-use ts_log::{LAST_POSITION, Step as LogStep};
+use ts_log::{LAST_POSITION, LogEffect as LogStep};
 use ts_synod::{Ballot, Command, Fact};
 
 /// Copies facts after others.
@@ -171,7 +172,7 @@ impl<C: Command> Roles<C> {
             (on_accepted (config_of self.old) (log_of facts)
             (volatile_of self.old).received from position ballot command.now))) }
         ensures latest { IfOk result (λ plan. IsLatest self.new plan.change) }
-        ensures same { Unchanged self.old self.new }
+        ensures same { AreUnchanged self.old self.new }
         ensures part { IsPart (M.commands machine.new) (learned_of self.new.log) }
         ensures basis { M.basis machine.new ≡ M.basis machine.old }
     {
@@ -196,7 +197,7 @@ impl<C: Command> Roles<C> {
             (on_give (config_of self.old) (log_of facts)
             (volatile_of self.old).received from position command.now))) }
         ensures latest { IfOk result (λ plan. IsLatest self.new plan.change) }
-        ensures same { Unchanged self.old self.new }
+        ensures same { AreUnchanged self.old self.new }
         ensures part { IsPart (M.commands machine.new) (learned_of self.new.log) }
         ensures basis { M.basis machine.new ≡ M.basis machine.old }
     {

@@ -1,6 +1,5 @@
 //! What reaches a node, and what it answers.
 
-use std::alloc::AllocError;
 use ts_record::Progress;
 use ts_synod::{Ballot, Message};
 
@@ -46,33 +45,4 @@ pub enum Reply<O, A> {
 pub struct Output<C, O, A> {
     pub messages: Vec<Message<C>>,
     pub reply: Reply<O, A>,
-}
-
-/// Why a node answers nothing.
-#[derive(Debug, PartialEq, Eq, Clone, Copy)]
-pub enum NodeFault {
-    /// An allocation was refused, and nothing else happened.
-    Memory,
-    /// A device failed in this call. The node is broken until it is opened again.
-    DiskFailed,
-    /// A device failed in an earlier call; or memory was refused to a turn when its roles were
-    /// ahead of the record, in this call or in an earlier one. The node has to be opened again.
-    Broken,
-    /// The greatest round used or seen is the last one.
-    RoundsExhausted,
-    /// Every position of the log is learned.
-    PositionsExhausted,
-    /// The record was rewritten as often as it can be.
-    GenerationsExhausted,
-}
-
-impl From<AllocError> for NodeFault {
-    ghost use Rattle.std.specs.Prelude.{◌≡◌};
-    ghost use Rattle.ts_node.specs.declared.input.NodeFault.TheVariants.{Memory};
-
-    ghost from_gives = { λ _ e. e ≡ Memory };
-
-    fn from(_: AllocError) -> Self {
-        NodeFault::Memory
-    }
 }

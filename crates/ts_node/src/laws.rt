@@ -3,7 +3,7 @@
 ghost use Rattle.std.specs.Prelude.{◌≤◌, ℕ, List};
 ghost use Rattle.ts_node.specs.Machine.{store_of};
 ghost use Rattle.ts_node.specs.Allowed.{AllCallsAre};
-ghost use Rattle.ts_node.specs.Run.{AreAllowed, Group, Happening, IsStart, Promised};
+ghost use Rattle.ts_node.specs.Run.{AreAllowed, Group, Happening, IsStart, RunPromises};
 
 use crate::machine::Machine;
 use ts_disk::Disk;
@@ -27,7 +27,7 @@ pub fn headline<D: Disk, C: Command + Codec, M: Machine<C>>()
         → IsStart C.octets n start
         → AreAllowed C.octets (store_of M.Question M.client_id M.outcome)
         (M.is_answer basis) n start run
-        → Promised (store_of M.Question M.client_id M.outcome) (M.is_answer basis) n start run }
+        → RunPromises (store_of M.Question M.client_id M.outcome) (M.is_answer basis) n start run }
 {}
 
 /// What the contracts of a node's calls say is what a run allows: of `Node::handle`, `Node::turn`,

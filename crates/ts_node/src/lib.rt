@@ -39,18 +39,18 @@
 //!   `handle`. So a group of one node knows a command after one append instead of four. Where
 //!   memory is refused once the roles are ahead of the record the node is broken, as after a
 //!   device's failure, and nothing of the turn is kept.
-//! - `Node::stage`: `stage`: the input is taken as a turn of the world's node at the node that holds
-//!   what waits, or it is refused, which changes nothing; no device is called (`IsBehind`). Only
-//!   where it is a compaction, or a record can't keep its facts with those that wait, are those kept
-//!   first, and it is a turn by itself (`IsApart`). Where memory is refused once the roles are ahead
-//!   of the record the node is broken. `ahead`.
+//! - `Node::stage`: `stage`: the input is taken as a turn of the world's node at the node that
+//!   holds what waits, or it is refused, which changes nothing; no device is called (`IsBehind`).
+//!   Only where it is a compaction, or a record can't keep its facts with those that wait, are
+//!   those kept first, and it is a turn by itself (`IsApart`). Where memory is refused once the
+//!   roles are ahead of the record the node is broken. `ahead`.
 //! - `Node::keep_staged`: `kept`: at every moment each pair of images opens to the facts before, or
 //!   to those and all that waited; none waits then, and where none waited no device is called; or
 //!   the node is broken. `ahead`.
 //! - `headline`: what is promised of every run of nodes (`specs/Run`). `calls_are_allowed`:
 //!   these runs are the lists of calls that meet their contracts, with stops between and within
-//!   them. Of calls of `stage` that are kept each input that was taken is one thing that happens, at
-//!   the moment at which all are kept.
+//!   them. Of calls of `stage` that are kept each input that was taken is one thing that happens,
+//!   at the moment at which all are kept.
 //! - `Node::is_broken`: a device failed, or memory was refused in the middle of a turn.
 //! - `Node::close`: the two disks and the machine.
 //!
@@ -90,8 +90,8 @@ mod turn;
 mod turning;
 
 pub use identity::Identity;
-pub use input::{Input, NodeFault, Output, Reply};
+pub use input::{Input, Output, Reply};
 pub use laws::{calls_are_allowed, headline};
 pub use machine::Machine;
-pub use node::{Node, Refused};
-pub use turn::Staged;
+pub use node::{Node, RefusedNode};
+pub use turn::StagedFacts;

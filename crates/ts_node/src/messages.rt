@@ -8,7 +8,8 @@ ghost use Rattle.ts_synod.specs.Acceptor.{on_accept, on_prepare, only_messages};
 ghost use Rattle.ts_synod.specs.Proposer.{on_busy, on_promise};
 ghost use Rattle.ts_synod.specs.Log.{catch_up, on_ask};
 ghost use Rattle.ts_synod.specs.Node.{no_effect, output_effect, proposer_effect};
-ghost use Rattle.ts_node.specs.Roles.{IsLatest, Makes, StandFor, Unchanged, config_of, volatile_of};
+ghost use Rattle.ts_node.specs.Roles.{StandFor, config_of, volatile_of};
+ghost use Rattle.ts_node.specs.inside.Roles.{IsLatest, Makes, AreUnchanged};
 
 use crate::plan::{Move, Plan};
 use crate::roles::Roles;
@@ -40,7 +41,7 @@ impl<C: Command> Roles<C> {
             (on_prepare (config_of self.old) (promised_ballot position facts)
             (taken_vote position facts) from position ballot))) }
         ensures latest { IfOk result (λ plan. IsLatest self.new plan.change) }
-        ensures same { Unchanged self.old self.new }
+        ensures same { AreUnchanged self.old self.new }
     {
         let mut step = self.acceptor.on_prepare(from, position, ballot)?;
         let messages = replace(&mut step.messages, Vec::new(self.alloc));
@@ -64,7 +65,7 @@ impl<C: Command> Roles<C> {
             (on_accept (config_of self.old) (promised_ballot position facts)
             (taken_vote position facts) from position ballot command.now))) }
         ensures latest { IfOk result (λ plan. IsLatest self.new plan.change) }
-        ensures same { Unchanged self.old self.new }
+        ensures same { AreUnchanged self.old self.new }
     {
         let mut step = self.acceptor.on_accept(from, position, ballot, command)?;
         let messages = replace(&mut step.messages, Vec::new(self.alloc));
@@ -88,7 +89,7 @@ impl<C: Command> Roles<C> {
             (on_promise (config_of self.old)
             (volatile_of self.old).proposer from position ballot taken.now))) }
         ensures latest { IfOk result (λ plan. IsLatest self.new plan.change) }
-        ensures same { Unchanged self.old self.new }
+        ensures same { AreUnchanged self.old self.new }
     {
         let taken = copy_of_vote(self.alloc, taken)?;
         let mut step = self.proposer.on_promise(from, position, ballot, taken)?;

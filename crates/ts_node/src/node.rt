@@ -14,24 +14,25 @@ ghost use Rattle.ts_synod.specs.Node.{initial};
 ghost use Rattle.ts_node.specs.Machine.{store_of};
 ghost use Rattle.ts_node.specs.Inputs.{InputFits, IsInput};
 ghost use Rattle.ts_node.specs.Call.{IsCall};
-ghost use Rattle.ts_record.specs.declared.fault.Fault.TheVariants.{Memory, DiskFailed};
+ghost use Rattle.ts_record.specs.declared.fault.RecordFault.TheVariants.{Memory, DiskFailed};
 ghost use Rattle.ts_record.specs.Facts.{AllFit, OpensTo, encodings};
-ghost use Rattle.ts_node.specs.Roles.{IsLatest, facts_in, volatile_after};
+ghost use Rattle.ts_node.specs.inside.Roles.{IsLatest, facts_in, volatile_after};
 ghost use Rattle.ts_record.specs.Record.{OpensToForce};
 ghost use Rattle.ts_synod.specs.Force.{SameForce};
 ghost use Rattle.ts_record.specs.Opening.{IsFault, NothingNew};
-ghost use Rattle.ts_node.specs.Node.{Compacts, Failed, Handles, IsSound, Moments, config, fault_as};
+ghost use Rattle.ts_node.specs.Node.{Compacts, HasFailed, Handles, IsSound, Moments, config};
+ghost use Rattle.ts_node.specs.Node.{fault_as};
 ghost use Rattle.ts_node.specs.Node.{facts, is_broken, owner, volatile};
 
 use crate::identity::Identity;
-use crate::input::{Input, NodeFault, Output, Reply};
+use crate::input::{Input, Output, Reply};
 use crate::machine::Machine;
 use crate::plan::Plan;
 use crate::roles::Roles;
 use std::alloc::Global;
 use ts_disk::Disk;
-use ts_record::{Fault, Record};
-use ts_synod::{Codec, Command, Message};
+use ts_record::{Record, RecordFault};
+use ts_synod::{Codec, Command, Message, NodeFault};
 
 /// A node: a record on two disks, the three roles, and a state machine that takes the learned
 /// commands.
@@ -48,8 +49,8 @@ pub struct Node<D: Disk, C: Codec, M> {
 
 /// Why a node was not opened, its two disks and the machine.
 #[derive(Drop)]
-pub struct Refused<D, M> {
-    pub fault: Fault,
+pub struct RefusedNode<D, M> {
+    pub fault: RecordFault,
     pub a: D,
     pub b: D,
     pub machine: M,
@@ -58,7 +59,7 @@ pub struct Refused<D, M> {
 impl<D: Disk, C: Command + Codec, M: Machine<C>> Node<D, C, M> {
     /// Opens the node whose record is on two disks: the world's node after a restart, on the
     /// record's facts. Refused, it gives the disks and the machine back.
-    pub fn open(alloc: Global, a: D, b: D, machine: M) -> Result<Node<D, C, M>, Refused<D, M>>
+    pub fn open(alloc: Global, a: D, b: D, machine: M) -> Result<Node<D, C, M>, RefusedNode<D, M>>
         requires { M.commands machine ≡ [] }
         // Each pair of images that a crash may leave opens to the facts, as the record of this
         // node.
@@ -95,7 +96,7 @@ impl<D: Disk, C: Command + Codec, M: Machine<C>> Node<D, C, M> {
         let kept = match Record::open(alloc, a, b) {
             Ok(kept) => kept,
             Err(refused) => {
-                return Err(Refused {
+                return Err(RefusedNode {
                     fault: refused.fault,
                     a: refused.a,
                     b: refused.b,
@@ -113,8 +114,8 @@ impl<D: Disk, C: Command + Codec, M: Machine<C>> Node<D, C, M> {
             }),
             Err(_) => {
                 let (a, b) = kept.close();
-                Err(Refused {
-                    fault: Fault::Memory,
+                Err(RefusedNode {
+                    fault: RecordFault::Memory,
                     a,
                     b,
                     machine,
@@ -189,7 +190,7 @@ impl<D: Disk, C: Command + Codec, M: Machine<C>> Node<D, C, M> {
         ensures memory { IsErrOf result NodeFault.Memory
             → (self.new.kept ≡ self.old.kept) × (self.new.roles ≡ self.old.roles) }
         ensures failed { IsErrOf result NodeFault.DiskFailed
-            → (self.new.kept.broken ≡ true) × Failed D.state self.old self.new }
+            → (self.new.kept.broken ≡ true) × HasFailed D.state self.old self.new }
     {
         let Plan { messages, change } = plan;
         match self.kept.append(self.alloc, change.facts()) {
@@ -218,7 +219,7 @@ impl<D: Disk, C: Command + Codec, M: Machine<C>> Node<D, C, M> {
         ensures whole { OnOk result (self.new.kept.broken ≡ false) }
         ensures ahead { self.new.ahead ≡ self.old.ahead }
         ensures failed { IsErrOf result NodeFault.DiskFailed
-            → (self.new.kept.broken ≡ true) × Failed D.state self.old self.new }
+            → (self.new.kept.broken ≡ true) × HasFailed D.state self.old self.new }
     {
         match self.kept.compact(self.alloc) {
             Ok(progress) => Ok(Output {
@@ -276,7 +277,7 @@ impl<D: Disk, C: Command + Codec, M: Machine<C>> Node<D, C, M> {
         ensures whole { OnOk result (self.new.kept.broken ≡ false) }
         ensures ahead { self.new.ahead ≡ self.old.ahead }
         ensures failed { IsErrOf result NodeFault.DiskFailed
-            → (self.new.kept.broken ≡ true) × Failed D.state self.old self.new }
+            → (self.new.kept.broken ≡ true) × HasFailed D.state self.old self.new }
     {
         match self.roles.plan_input(&mut self.machine, input) {
             Ok((plan, reply)) => match self.commit(plan) {
@@ -289,13 +290,13 @@ impl<D: Disk, C: Command + Codec, M: Machine<C>> Node<D, C, M> {
 }
 
 /// The node's fault for a record's fault.
-fn fault_of(fault: Fault) -> NodeFault
+fn fault_of(fault: RecordFault) -> NodeFault
     ensures { result ≡ fault_as fault }
 {
     match fault {
-        Fault::Memory => NodeFault::Memory,
-        Fault::DiskFailed => NodeFault::DiskFailed,
-        Fault::GenerationsExhausted => NodeFault::GenerationsExhausted,
+        RecordFault::Memory => NodeFault::Memory,
+        RecordFault::DiskFailed => NodeFault::DiskFailed,
+        RecordFault::GenerationsExhausted => NodeFault::GenerationsExhausted,
         _ => NodeFault::Broken,
     }
 }

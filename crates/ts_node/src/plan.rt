@@ -3,9 +3,9 @@
 
 ghost use Rattle.std.specs.Prelude.{◌≡◌};
 
-use ts_acceptor::Step as AcceptorStep;
-use ts_log::Step as LogStep;
-use ts_proposer::Step as ProposerStep;
+use ts_acceptor::AcceptorEffect as AcceptorStep;
+use ts_log::LogEffect as LogStep;
+use ts_proposer::ProposerEffect as ProposerStep;
 use ts_synod::{Fact, Message};
 
 /// How the roles change. A change that isn't made changes nothing.
@@ -27,7 +27,7 @@ pub(crate) struct Plan<C> {
 }
 
 impl<C> Move<C> {
-    ghost use Rattle.ts_node.specs.Roles.{facts_in};
+    ghost use Rattle.ts_node.specs.inside.Roles.{facts_in};
 
     /// The facts that the change keeps.
     pub fn facts(&self) -> &[Fact<C>]

@@ -9,14 +9,15 @@ ghost use Rattle.ts_log.specs.Log.{learned_of};
 ghost use Rattle.ts_node.specs.Machine.{store_of};
 ghost use Rattle.ts_node.specs.Growing.{IsPart};
 ghost use Rattle.ts_node.specs.Inputs.{IsInput, Submits};
-ghost use Rattle.ts_node.specs.Roles.{IsLatest, Makes, StandFor, Unchanged, config_of, volatile_of};
+ghost use Rattle.ts_node.specs.Roles.{StandFor, config_of, volatile_of};
+ghost use Rattle.ts_node.specs.inside.Roles.{IsLatest, Makes, AreUnchanged};
 
-use crate::input::{Input, NodeFault, Reply};
+use crate::input::{Input, Reply};
 use crate::machine::Machine;
 use crate::plan::Plan;
 use crate::roles::Roles;
 use std::alloc::AllocError;
-use ts_synod::{Body, Command, Fact, Message};
+use ts_synod::{Body, Command, Fact, Message, NodeFault};
 
 impl<C: Command> Roles<C> {
     /// The plan that answers a body that a node sent to this one.
@@ -32,7 +33,7 @@ impl<C: Command> Roles<C> {
             → Makes self.new plan (world.on_body (store_of M.Question M.client_id M.outcome)
             (config_of self.old) facts (volatile_of self.old) from body.now)) }
         ensures latest { IfOk result (λ plan. IsLatest self.new plan.change) }
-        ensures same { Unchanged self.old self.new }
+        ensures same { AreUnchanged self.old self.new }
         ensures part { IsPart (M.commands machine.new) (learned_of self.new.log) }
         ensures basis { M.basis machine.new ≡ M.basis machine.old }
     {
@@ -97,7 +98,7 @@ impl<C: Command> Roles<C> {
             → Makes self.new plan (world.on_message (store_of M.Question M.client_id M.outcome)
             (config_of self.old) facts (volatile_of self.old) message.now)) }
         ensures latest { IfOk result (λ plan. IsLatest self.new plan.change) }
-        ensures same { Unchanged self.old self.new }
+        ensures same { AreUnchanged self.old self.new }
         ensures part { IsPart (M.commands machine.new) (learned_of self.new.log) }
         ensures basis { M.basis machine.new ≡ M.basis machine.old }
     {
@@ -123,7 +124,7 @@ impl<C: Command> Roles<C> {
             (world.step (store_of M.Question M.client_id M.outcome) (config_of self.old)
             (node_with facts (volatile_of self.old)) sent event) }
         ensures latest { IfOk result (λ step. IsLatest self.new step.0.change) }
-        ensures same { Unchanged self.old self.new }
+        ensures same { AreUnchanged self.old self.new }
         ensures part { IsPart (M.commands machine.new) (learned_of self.new.log) }
         ensures basis { M.basis machine.new ≡ M.basis machine.old }
     {

@@ -7,14 +7,16 @@ ghost use Rattle.ts_acceptor.specs.Steps as acceptor_steps;
 ghost use Rattle.ts_proposer.specs.Steps as proposer_steps;
 ghost use Rattle.ts_log.specs.Steps as log_steps;
 ghost use Rattle.ts_log.specs.Log as logs;
-ghost use Rattle.ts_node.specs.Roles.{AllUsed, IsLatest, StandFor, config_of, facts_in};
-ghost use Rattle.ts_node.specs.Roles.{volatile_after, volatile_of};
+ghost use Rattle.ts_node.specs.Roles.{StandFor, config_of};
+ghost use Rattle.ts_node.specs.inside.Roles.{AllUsed, IsLatest, facts_in};
+ghost use Rattle.ts_node.specs.Roles.{volatile_of};
+ghost use Rattle.ts_node.specs.inside.Roles.{volatile_after};
 
 use crate::plan::Move;
 use std::alloc::{AllocError, Global};
-use ts_acceptor::{Acceptor, Step as AcceptorStep};
-use ts_log::{Log, Step as LogStep};
-use ts_proposer::{Proposer, Step as ProposerStep};
+use ts_acceptor::{Acceptor, AcceptorEffect as AcceptorStep};
+use ts_log::{Log, LogEffect as LogStep};
+use ts_proposer::{Proposer, ProposerEffect as ProposerStep};
 use ts_synod::{Command, Fact};
 
 /// The roles of a node, each of which stands for the facts that the node has kept.

@@ -1,7 +1,8 @@
 //! Whether a record can keep facts at once.
 
 ghost use Rattle.std.specs.Prelude.{◌≡◌, ◌≤◌, ◌+◌, ◌↔◌, length, IfOk, IfSome, IfNone, true};
-ghost use Rattle.ts_record.specs.Facts.{AllFit, Fits, IsBallot, IsPosition, encoding, encodings};
+ghost use Rattle.ts_record.specs.Facts.{AllFit, FactFits, IsBallot, IsPosition, fact_encoding};
+ghost use Rattle.ts_record.specs.Facts.{encodings};
 
 use std::alloc::{AllocError, Global};
 use ts_synod::{Ballot, Codec, Fact};
@@ -41,10 +42,10 @@ fn command_size<C: Codec>(alloc: Global, command: &C) -> Result<Option<usize>, A
 
 /// How many octets a fact takes, if it fits and a record can keep them.
 fn fact_size<C: Codec>(alloc: Global, fact: &Fact<C>) -> Result<Option<usize>, AllocError>
-    ensures some { IfOk result (λ found. IfSome found (λ size. Fits C.octets fact.now
-        × (size ≡ length (encoding C.octets fact.now)) × (size ≤ 4194517))) }
-    ensures none { IfOk result (λ found. IfNone found (Fits C.octets fact.now
-        → length (encoding C.octets fact.now) ≤ 4194500 → ⊥)) }
+    ensures some { IfOk result (λ found. IfSome found (λ size. FactFits C.octets fact.now
+        × (size ≡ length (fact_encoding C.octets fact.now)) × (size ≤ 4194517))) }
+    ensures none { IfOk result (λ found. IfNone found (FactFits C.octets fact.now
+        → length (fact_encoding C.octets fact.now) ≤ 4194500 → ⊥)) }
 {
     match fact {
         Fact::Used { round } => {

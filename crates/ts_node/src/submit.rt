@@ -10,18 +10,19 @@ ghost use Rattle.ts_synod.specs.Store.{settling};
 ghost use Rattle.ts_log.specs.Log.{learned_of};
 ghost use Rattle.ts_node.specs.Machine.{store_of};
 ghost use Rattle.ts_node.specs.Growing.{IsPart};
-ghost use Rattle.ts_node.specs.Inputs.{IsReply, Submits};
-ghost use Rattle.ts_node.specs.Roles.{IsLatest, Makes, StandFor, config_of, volatile_of};
+ghost use Rattle.ts_node.specs.Inputs.{SaysReply, Submits};
+ghost use Rattle.ts_node.specs.Roles.{StandFor, config_of, volatile_of};
+ghost use Rattle.ts_node.specs.inside.Roles.{IsLatest, Makes};
 
 use crate::feeding::feed;
-use crate::input::{NodeFault, Reply};
+use crate::input::Reply;
 use crate::machine::Machine;
 use crate::plan::{Move, Plan};
 use crate::roles::Roles;
 use std::alloc::AllocError;
 use std::mem::replace;
 use ts_proposer::ProposeFault;
-use ts_synod::{Command, Fact, ballot_of};
+use ts_synod::{Command, Fact, NodeFault, ballot_of};
 
 impl<C: Command> Roles<C> {
     /// The plan that proposes a command, unless its id is settled.
@@ -74,7 +75,7 @@ impl<C: Command> Roles<C> {
         question: &M::Question,
     ) -> Result<Reply<M::Outcome, M::Answer>, AllocError>
         requires part { IsPart (M.commands machine.old) (learned_of self.now.log) }
-        ensures reply { IfOk result (λ reply. IsReply (M.is_answer (M.basis machine.old)) reply
+        ensures reply { IfOk result (λ reply. SaysReply (M.is_answer (M.basis machine.old)) reply
             (on_question (store_of M.Question M.client_id M.outcome)
             (prefix (learned_of self.now.log)) k question.now)) }
         ensures part { IsPart (M.commands machine.new) (learned_of self.now.log) }
@@ -101,7 +102,7 @@ impl<C: Command> Roles<C> {
         id: &[u8; 16],
     ) -> Result<Reply<M::Outcome, M::Answer>, AllocError>
         requires part { IsPart (M.commands machine.old) (learned_of self.now.log) }
-        ensures reply { IfOk result (λ reply. IsReply (M.is_answer (M.basis machine.old)) reply
+        ensures reply { IfOk result (λ reply. SaysReply (M.is_answer (M.basis machine.old)) reply
             (outcome_reply (store_of M.Question M.client_id M.outcome) id.now
             (settling (store_of M.Question M.client_id M.outcome)
             (prefix (learned_of self.now.log)) id.now))) }

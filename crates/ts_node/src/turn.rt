@@ -10,9 +10,10 @@ ghost use Rattle.ts_synod.specs.Node as world;
 ghost use Rattle.ts_log.specs.Log.{learned_of};
 ghost use Rattle.ts_node.specs.Machine.{store_of};
 ghost use Rattle.ts_node.specs.Growing.{IsPart};
-ghost use Rattle.ts_node.specs.Roles.{IsLatest, StandFor, config_of, facts_in, volatile_after};
+ghost use Rattle.ts_node.specs.Roles.{StandFor, config_of};
+ghost use Rattle.ts_node.specs.inside.Roles.{IsLatest, facts_in, volatile_after};
 ghost use Rattle.ts_node.specs.Roles.{volatile_of};
-ghost use Rattle.ts_node.specs.Staged.{IsFull, IsHeld, IsSoFar};
+ghost use Rattle.ts_node.specs.inside.Staged.{IsFull, IsHeld, IsSoFar};
 
 use crate::growth::push_copies;
 use crate::machine::Machine;
@@ -42,19 +43,19 @@ pub(crate) struct Turn<C> {
 
 /// The facts of turns that a node has made in memory, and that wait to be kept at once.
 #[derive(Drop)]
-pub struct Staged<C> {
+pub struct StagedFacts<C> {
     pub(crate) facts: Vec<Fact<C>>,
     /// How many octets the facts take in a record.
     pub(crate) size: usize,
 }
 
-impl<C> Staged<C> {
+impl<C> StagedFacts<C> {
     /// No facts.
-    pub fn empty(alloc: Global) -> Staged<C>
+    pub fn empty(alloc: Global) -> StagedFacts<C>
         ensures facts { result.facts.items ≡ [] }
         ensures size { result.size ≡ 0 }
     {
-        Staged {
+        StagedFacts {
             facts: Vec::new(alloc),
             size: 0,
         }

@@ -5,25 +5,26 @@ ghost use Rattle.std.specs.Prelude.{◌≡◌, ◌≤◌, ◌+◌, ◌==◌, ◌
 ghost use Rattle.std.specs.Prelude.{false, not};
 ghost use Rattle.std.specs.List.{filter};
 ghost use Rattle.ts_node.specs.Machine.{store_of};
-ghost use Rattle.ts_record.specs.declared.fault.Fault.TheVariants.{DiskFailed};
+ghost use Rattle.ts_record.specs.declared.fault.RecordFault.TheVariants.{DiskFailed};
 ghost use Rattle.ts_record.specs.Facts.{AllFit, encodings};
 ghost use Rattle.ts_node.specs.Inputs.{InputFits};
 ghost use Rattle.ts_node.specs.Node.{IsSound, Moments, config, volatile};
-ghost use Rattle.ts_node.specs.Roles.{IsLatest, facts_in};
-ghost use Rattle.ts_node.specs.Staged.{AreReady, HasBegun, HasCome, HasRest, IsHeld, IsStaged};
+ghost use Rattle.ts_node.specs.inside.Roles.{IsLatest, facts_in};
+ghost use Rattle.ts_node.specs.Staged.{AreReady, IsStaged};
+ghost use Rattle.ts_node.specs.inside.Staged.{HasBegun, HasCome, HasRest, IsHeld};
 ghost use Rattle.ts_node.specs.Staged.{Keeps};
 ghost use Rattle.ts_node.specs.Turn.{IsTurn, given_out, has_own};
 
-use crate::input::{Input, NodeFault, Output, Reply};
+use crate::input::{Input, Output, Reply};
 use crate::machine::Machine;
 use crate::node::Node;
 use crate::plan::Plan;
 use crate::room::room_for;
-use crate::turn::{Staged, Turn};
+use crate::turn::{StagedFacts, Turn};
 use std::alloc::{AllocError, Global};
 use ts_disk::Disk;
-use ts_record::Fault;
-use ts_synod::{Codec, Command, Fact, Message};
+use ts_record::RecordFault;
+use ts_synod::{Codec, Command, Fact, Message, NodeFault};
 
 /// Whether one of the messages is to this node.
 fn has_own<C>(messages: &[Message<C>], me: u8) -> bool
@@ -91,7 +92,7 @@ fn give_out<C: Drop>(
     Ok(given)
 }
 
-impl<C: Drop> Staged<C> {
+impl<C: Drop> StagedFacts<C> {
     /// Puts the facts of a turn behind those before, and gives its messages out.
     fn put(&mut self, alloc: Global, turn: Turn<C>, me: u8) -> Result<Vec<Message<C>>, AllocError>
         requires { turn.looked ≤ length turn.messages.items }
@@ -210,7 +211,7 @@ impl<D: Disk, C: Command + Codec, M: Machine<C>> Node<D, C, M> {
         let Ok(Some(size)) = room_for(self.alloc, plan.change.facts(), 0) else {
             return Err(NodeFault::Memory);
         };
-        let mut staged = Staged::empty(self.alloc);
+        let mut staged = StagedFacts::empty(self.alloc);
         match self.begin(plan, size, reply, &mut staged) {
             Ok(output) => match self.append_staged(staged) {
                 Ok(()) => Ok(output),
@@ -228,7 +229,7 @@ impl<D: Disk, C: Command + Codec, M: Machine<C>> Node<D, C, M> {
         plan: Plan<C>,
         size: usize,
         reply: Reply<M::Outcome, M::Answer>,
-        staged: &mut Staged<C>,
+        staged: &mut StagedFacts<C>,
     ) -> Result<Output<C, M::Outcome, M::Answer>, NodeFault>
         requires still { self.old.ahead ≡ false }
         requires staged { IsStaged D.state C.octets M.commands self.old staged.old.facts.items }
@@ -260,7 +261,7 @@ impl<D: Disk, C: Command + Codec, M: Machine<C>> Node<D, C, M> {
         &mut self,
         turn: Turn<C>,
         reply: Reply<M::Outcome, M::Answer>,
-        staged: &mut Staged<C>,
+        staged: &mut StagedFacts<C>,
     ) -> Result<Output<C, M::Outcome, M::Answer>, NodeFault>
         requires still { self.old.ahead ≡ false }
         requires staged { IsStaged D.state C.octets M.commands self.old
@@ -290,7 +291,7 @@ impl<D: Disk, C: Command + Codec, M: Machine<C>> Node<D, C, M> {
     }
 
     /// Keeps the facts of turns, by one append.
-    pub(crate) fn append_staged(&mut self, staged: Staged<C>) -> Result<(), NodeFault>
+    pub(crate) fn append_staged(&mut self, staged: StagedFacts<C>) -> Result<(), NodeFault>
         requires whole { self.old.kept.broken ≡ false }
         requires still { self.old.ahead ≡ false }
         requires staged { IsStaged D.state C.octets M.commands self.old staged.facts.items }
@@ -315,7 +316,7 @@ impl<D: Disk, C: Command + Codec, M: Machine<C>> Node<D, C, M> {
 
     /// The node's fault for a fault of the record at the end of a turn: where no device failed, the
     /// roles are ahead of the record, and the node is broken.
-    fn stop(&mut self, fault: Fault) -> NodeFault
+    fn stop(&mut self, fault: RecordFault) -> NodeFault
         ensures failed { fault ≡ DiskFailed
             → (result ≡ NodeFault.DiskFailed) × (self.new ≡ self.old) }
         ensures other { (fault ≡ DiskFailed → ⊥)
@@ -323,7 +324,7 @@ impl<D: Disk, C: Command + Codec, M: Machine<C>> Node<D, C, M> {
         ensures same { self.new ≡ record self.old { ahead = self.new.ahead } }
     {
         match fault {
-            Fault::DiskFailed => NodeFault::DiskFailed,
+            RecordFault::DiskFailed => NodeFault::DiskFailed,
             _ => self.give_up(),
         }
     }

@@ -1,8 +1,8 @@
 -- A counter that runs along the chain is the least of what the start and the bounds above leave.
-use Rattle.std.proofs.Common.{◌≡◌, ℕ, zero, suc, ◌+◌, ◌-◌, min, List, [], ◌∷◌, Option, Some, None, refl, sym, ap, ◌∙◌, arith}
+use Rattle.std.proofs.Common.{◌≡◌, ℕ, ◌+◌, ◌-◌, min, List, [], ◌∷◌, Option, Some, None, refl, ap, ◌∙◌, arith}
 use Rattle.ts_cert.specs.Certificate.{Certificate}
 use Rattle.ts_path.specs.Counters.{counted, all_counted, with_bound, bounds, least_of, counter}
-use Rattle.ts_path.specs.Judging.{lowered}
+use Rattle.ts_path.specs.inside.Judging.{lowered}
 
 min_minus : (a p b k : ℕ) → min (a - (p + k)) (b - k) ≡ min (a - p) b - k
 min_minus a p b k = omega arith
@@ -35,7 +35,9 @@ counts bound start c above =
     by_bound (bound c) (ap (λ (n : ℕ). least_of n (bounds bound (0 + counted c) above)) (fewer start (counted c) (all_counted above))
     ∙ passed bound (start - all_counted above) 0 (counted c) above) where
       by_bound : (b : Option ℕ) → least_of (start - (counted c + all_counted above)) (bounds bound (0 + counted c) above) ≡ least_of (start - all_counted above) (bounds bound 0 above) - counted c
-          → least_of (start - (counted c + all_counted above)) (with_bound b 0 (bounds bound (0 + counted c) above)) ≡ lowered (least_of (start - all_counted above) (bounds bound 0 above) - counted c) b
+          → least_of (start - (counted c + all_counted above))
+          (with_bound b 0 (bounds bound (0 + counted c) above)) ≡ lowered
+          (least_of (start - all_counted above) (bounds bound 0 above) - counted c) b
       by_bound None e = e
       by_bound (Some r) e = ap (λ (n : ℕ). min n (least_of (start - (counted c + all_counted above)) (bounds bound (0 + counted c) above))) (all_left r) ∙ ap (λ (n : ℕ). min r n) e
 

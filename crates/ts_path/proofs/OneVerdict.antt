@@ -1,5 +1,5 @@
 -- A question has one verdict.
-use Rattle.std.proofs.Common.{◌≡◌, ℕ, suc, ◌+◌, ◌<◌, ◌≤◌, nat_lt, ◌==◌, ◌||◌, ◌&&◌, Bool, true, false, cond, eqb, List, [], ◌∷◌, length, map, Option, Some, None, refl, sym, ap, subst, ◌∙◌, arith, ◌⊎◌, inl, inr}
+use Rattle.std.proofs.Common.{◌≡◌, ℕ, ◌+◌, ◌<◌, ◌≤◌, nat_lt, ◌==◌, ◌||◌, ◌&&◌, Bool, true, false, List, [], ◌∷◌, length, map, Option, Some, None, refl, sym, ap, subst, ◌∙◌, arith, ◌⊎◌, inl, inr}
 use Rattle.std.proofs.lemmas.Bool.{cases_order, false≢true}
 use Rattle.std.proofs.lemmas.Bool.Decides.{Decides-eqb, Decides-ltb}
 use Rattle.std.proofs.Math.Nat.{eq-or-lt_of_le}
@@ -8,62 +8,21 @@ use Rattle.ts_policy.specs.Accepted.{comes_before, AreAscending}
 use Rattle.ts_revoke.specs.declared.verdict.Status.{Status}
 use Rattle.ts_revoke.specs.declared.verdict.Status.TheVariants as status
 use Rattle.ts_cert.specs.Certificate.{Certificate}
-use Rattle.ts_path.specs.declared.reason.Reason.{Reason}
-use Rattle.ts_path.specs.declared.reason.Reason.TheVariants.{Revoked, CriticalExtension}
+use Rattle.ts_der.specs.declared.oid.OidRef.{OidRef}
+use Rattle.ts_reason.specs.declared.reason.Reason.{Reason}
+use Rattle.ts_reason.specs.declared.reason.Reason.TheVariants.{Revoked, CriticalExtension}
 use Rattle.ts_path.specs.declared.verdict.Verdict.{Verdict}
 use Rattle.ts_path.specs.declared.verdict.Verdict.TheVariants.{Valid, Invalid}
 use Rattle.ts_path.specs.Extensions.{first_refused}
-use Rattle.ts_path.specs.Chain.{Question, Link, Stands, chained}
-use Rattle.ts_path.specs.Conditions.{Site, status_at, Accepts, Condition, number_of, anchor_purpose, signature, too_early, expired, revoked, undetermined, issuer_name, unsupported_constraint, not_permitted, excluded, policy_required, maps_any, not_ca, path_length, key_usage, critical_extension, final_policy, purpose}
-use Rattle.ts_path.specs.Verdict.{IsLeast, IsVerdict, IsSame, IsSameReason, HasDetails, Details, AreAccepted, code_of, oid_of, condition_of, site_of}
+use Rattle.ts_path.specs.Chain.{ChainQuestion, Link, Stands, chained}
+use Rattle.ts_path.specs.Conditions.{Site, status_at}
+use Rattle.ts_reason.specs.Conditions.{Condition, number_of, revoked, critical_extension}
+use Rattle.ts_path.specs.Verdict.{IsLeast, IsVerdict, IsSame, HasDetails, Details, AreAccepted, site_of}
+use Rattle.ts_reason.specs.View.{code_of, oid_of, condition_of, reason_in}
+use Rattle.ts_reason.proofs.Numbers.{one_number}
+use Rattle.ts_reason.proofs.Parts.{condition_in, one_reason}
 
--- the condition of a number
-condition_numbered : ℕ → Condition
-condition_numbered n =
-    cond (eqb n 1) anchor_purpose
-    (cond (eqb n 2) signature
-    (cond (eqb n 3) too_early
-    (cond (eqb n 4) expired
-    (cond (eqb n 5) revoked
-    (cond (eqb n 6) undetermined
-    (cond (eqb n 7) issuer_name
-    (cond (eqb n 8) unsupported_constraint
-    (cond (eqb n 9) not_permitted
-    (cond (eqb n 10) excluded
-    (cond (eqb n 11) policy_required
-    (cond (eqb n 12) maps_any
-    (cond (eqb n 13) not_ca
-    (cond (eqb n 14) path_length
-    (cond (eqb n 15) key_usage
-    (cond (eqb n 16) critical_extension
-    (cond (eqb n 17) final_policy
-    purpose))))))))))))))))
-
-numbered : (k : Condition) → condition_numbered (number_of k) ≡ k
-unfolding condition_numbered
-numbered anchor_purpose = refl
-numbered signature = refl
-numbered too_early = refl
-numbered expired = refl
-numbered revoked = refl
-numbered undetermined = refl
-numbered issuer_name = refl
-numbered unsupported_constraint = refl
-numbered not_permitted = refl
-numbered excluded = refl
-numbered policy_required = refl
-numbered maps_any = refl
-numbered not_ca = refl
-numbered path_length = refl
-numbered key_usage = refl
-numbered critical_extension = refl
-numbered final_policy = refl
-numbered purpose = refl
-
-pub one_number : (k m : Condition) → number_of k ≡ number_of m → k ≡ m
-one_number k m e = sym (numbered k) ∙ (ap condition_numbered e ∙ numbered m)
-
-pub one_least : (q : Question) (i j : ℕ) (k m : Condition) → IsLeast q i k → IsLeast q j m → (i ≡ j) × (k ≡ m)
+pub one_least : (q : ChainQuestion) (i j : ℕ) (k m : Condition) → IsLeast q i k → IsLeast q j m → (i ≡ j) × (k ≡ m)
 one_least q i j k m a b =
     elim (cases_order i j) [
       | inl same ↦ elim (cases_order (number_of k) (number_of m)) [
@@ -129,7 +88,9 @@ one_ascending (p ∷ ps) (q ∷ qs) hp hq f g =
     λ i. e i ∷ tails i
 
 -- the certificate at a position
-link_from : (chain : List Certificate) (i : ℕ) (above : List Certificate) (c : Certificate) (rest : List Certificate) → chain ≡ chained above (c ∷ rest) → length above < i → i ≤ length above + length (c ∷ rest) → (l : Link) × Stands chain i l
+link_from : (chain : List Certificate) (i : ℕ) (above : List Certificate) (c : Certificate)
+    (rest : List Certificate) → chain ≡ chained above (c ∷ rest) → length above < i
+    → i ≤ length above + length (c ∷ rest) → (l : Link) × Stands chain i l
 link_from chain i above c [] e low high = (record { above = above; certificate = c; below = [] }, record { chain_is = e; position_is = omega (arith, low, high) })
 link_from chain i above c (d ∷ rest) e low high =
     elim (eq-or-lt_of_le low) [
@@ -142,7 +103,7 @@ link_at [] i low high = absurd (omega (arith, low, high))
 link_at (c ∷ rest) i low high = link_from (c ∷ rest) i [] c rest refl (omega (arith, low)) (omega (arith, high))
 
 -- a chain that is not empty accepts one list of policies
-pub one_accepted : (q : Question) (ps qs : List Label) → 1 ≤ length q.chain → AreAccepted q ps → AreAccepted q qs → ps ≡ qs
+pub one_accepted : (q : ChainQuestion) (ps qs : List Label) → 1 ≤ length q.chain → AreAccepted q ps → AreAccepted q qs → ps ≡ qs
 one_accepted q ps qs some h k =
     let w = link_at q.chain (length q.chain) some (omega arith) in
     one_ascending ps qs h.ascending k.ascending (λ x i. (k.accepted w.0 w.1 x).1 ((h.accepted w.0 w.1 x).0 i)) (λ x i. (h.accepted w.0 w.1 x).1 ((k.accepted w.0 w.1 x).0 i))
@@ -156,7 +117,7 @@ code_at : Condition → Site → Option ℕ
 code_at revoked x = status_code (status_at x)
 code_at other x = None
 
-code_is : (reason : Reason) (x : Site) → Details reason x → code_of reason ≡ code_at (condition_of reason) x
+code_is : (reason : Reason OidRef) (x : Site) → Details reason x → code_of (reason_in reason) ≡ code_at (condition_of reason) x
 unfolding code_at status_code
 code_is (Revoked code) x h = sym (ap status_code h)
 code_is other x h = refl
@@ -165,12 +126,14 @@ oid_at : Condition → Site → Option (List ℕ)
 oid_at critical_extension x = first_refused x.certificate.tbsCertificate
 oid_at other x = None
 
-oid_is : (reason : Reason) (x : Site) → Details reason x → oid_of reason ≡ oid_at (condition_of reason) x
+oid_is : (reason : Reason OidRef) (x : Site) → Details reason x → oid_of (reason_in reason) ≡ oid_at (condition_of reason) x
 unfolding oid_at
 oid_is (CriticalExtension oid) x h = sym h
 oid_is other x h = refl
 
-same_reason : (q : Question) (i j : ℕ) (a b : Reason) → IsLeast q i (condition_of a) → HasDetails q i a → IsLeast q j (condition_of b) → HasDetails q j b → (i ≡ j) × IsSameReason a b
+same_reason : (q : ChainQuestion) (i j : ℕ) (a b : Reason OidRef) → IsLeast q i (condition_of a)
+    → HasDetails q i a → IsLeast q j (condition_of b) → HasDetails q j b → (i ≡ j)
+    × (reason_in a ≡ reason_in b)
 same_reason q i j a b least details other others =
     let one = one_least q i j (condition_of a) (condition_of b) least other in
     let w = link_at q.chain i least.stands.0 least.stands.1 in
@@ -178,10 +141,12 @@ same_reason q i j a b least details other others =
     let P : ℕ → Type 0 = λ k. HasDetails q k b in
     let h = details w.0 w.1 in
     let k = subst P (sym one.0) others w.0 w.1 in
-    (one.0, (one.1, code_is a x h ∙ (ap (λ c. code_at c x) one.1 ∙ sym (code_is b x k)), oid_is a x h ∙ (ap (λ c. oid_at c x) one.1 ∙ sym (oid_is b x k))))
+    let code = code_is a x h ∙ (ap (λ c. code_at c x) one.1 ∙ sym (code_is b x k)) in
+    let oid = oid_is a x h ∙ (ap (λ c. oid_at c x) one.1 ∙ sym (oid_is b x k)) in
+    (one.0, one_reason (reason_in a) (reason_in b) (condition_in a ∙ one.1 ∙ sym (condition_in b)) code oid)
 
-pub one_verdict : (q : Question) (v w : Verdict) → 1 ≤ length q.chain → IsVerdict q v → IsVerdict q w → IsSame v w
-one_verdict q (Valid ps) (Valid qs) some h k = one_accepted q (map (λ p. p.now) ps.items) (map (λ p. p.now) qs.items) some h.1 k.1
+pub one_verdict : (q : ChainQuestion) (v w : Verdict) → 1 ≤ length q.chain → IsVerdict q v → IsVerdict q w → IsSame v w
+one_verdict q (Valid ps) (Valid qs) some h k = one_accepted q (map (λ p. p.content.now) ps.items) (map (λ p. p.content.now) qs.items) some h.1 k.1
 one_verdict q (Valid ps) (Invalid j b) some h k = k.0.fails (h.0 j (condition_of b))
 one_verdict q (Invalid i a) (Valid qs) some h k = h.0.fails (k.0 i (condition_of a))
 one_verdict q (Invalid i a) (Invalid j b) some h k = same_reason q i j a b h.0 h.1 k.0 k.1

@@ -5,15 +5,18 @@ use Rattle.std.proofs.lemmas.List.{take_all}
 use Rattle.ts_cert.specs.Certificate.{Certificate}
 use Rattle.ts_policy.specs.Labels.{Label, In}
 use Rattle.ts_policy.specs.Accepted.{AreAscending}
-use Rattle.ts_path.specs.declared.reason.Reason.{Reason}
-use Rattle.ts_path.specs.Chain.{Question, Link, Stands, chained, is_empty}
+use Rattle.ts_der.specs.declared.oid.OidRef.{OidRef}
+use Rattle.ts_reason.specs.declared.reason.Reason.{Reason}
+use Rattle.ts_path.specs.Chain.{ChainQuestion, Link, Stands, chained, is_empty}
 use Rattle.ts_policy.specs.Paths.{CertPolicies}
 use Rattle.ts_policy.specs.Seen.{Seen}
-use Rattle.ts_path.specs.State.{State, state_at, policies_at, policies_above}
+use Rattle.ts_path.specs.State.{PathState, state_at, policies_at, policies_above}
 use Rattle.ts_path.specs.View.{at}
-use Rattle.ts_path.specs.Conditions.{Condition, Meets, number_of, Accepts}
-use Rattle.ts_path.specs.Verdict.{condition_of, site_of, Holds, Precedes, IsLeast, Details, HasDetails, AreAccepted}
-use Rattle.ts_path.specs.Judging.{MeetsBelow, FailsFirst, Took, state_after}
+use Rattle.ts_path.specs.Conditions.{Meets, Accepts}
+use Rattle.ts_reason.specs.Conditions.{Condition, number_of}
+use Rattle.ts_path.specs.Verdict.{site_of, HoldsAt, Precedes, IsLeast, Details, HasDetails, AreAccepted}
+use Rattle.ts_reason.specs.View.{condition_of}
+use Rattle.ts_path.specs.inside.Judging.{MeetsBelow, FailsFirst, Took, state_after}
 use Rattle.ts_path.proofs.Advance.{state_next}
 use Rattle.ts_path.proofs.Steps.{all, met}
 
@@ -50,20 +53,20 @@ within chain i l s =
 -- ---- the certificates that have been passed
 
 -- all conditions hold at the first positions
-unfoldable pub AllHold : Question → ℕ → Type 0
-AllHold q passed = (j : ℕ) (k : Condition) → j ≤ passed → Holds k q j
+unfoldable pub AllHold : ChainQuestion → ℕ → Type 0
+AllHold q passed = (j : ℕ) (k : Condition) → j ≤ passed → HoldsAt k q j
 
-pub none_passed : (q : Question) → AllHold q 0
-unfolding AllHold Holds
+pub none_passed : (q : ChainQuestion) → AllHold q 0
+unfolding AllHold HoldsAt
 none_passed q j k low l s = absurd (omega (arith, low, s.position_is))
 
 -- a condition that the certificate at a position meets holds there
-holds_at : (q : Question) (i : ℕ) (l : Link) → Stands q.chain i l → (k : Condition) → Meets k (site_of q l) → Holds k q i
-unfolding Holds
+holds_at : (q : ChainQuestion) (i : ℕ) (l : Link) → Stands q.chain i l → (k : Condition) → Meets k (site_of q l) → HoldsAt k q i
+unfolding HoldsAt
 holds_at q i l s k is m t = subst (λ (o : Link). Meets k (site_of q o)) (one_link q.chain i l m s t) is
 
-fails_at : (q : Question) (i : ℕ) (l : Link) → Stands q.chain i l → (k : Condition) → ¬ (Meets k (site_of q l)) → ¬ (Holds k q i)
-unfolding Holds
+fails_at : (q : ChainQuestion) (i : ℕ) (l : Link) → Stands q.chain i l → (k : Condition) → ¬ (Meets k (site_of q l)) → ¬ (HoldsAt k q i)
+unfolding HoldsAt
 fails_at q i l s k not_met holds = not_met (holds l s)
 
 one_more : (j n : ℕ) → j ≤ suc n → (j ≤ n) ⊎ (suc n ≡ j)
@@ -73,23 +76,23 @@ one_more j n low =
       | inr other ↦ elim other [ inl lt ↦ inl (omega (arith, lt)) | inr gt ↦ absurd (omega (arith, gt, low)) ]
     ]
 
-pub passes : (q : Question) (l : Link) → Stands q.chain (suc (length l.above)) l → AllHold q (length l.above) → MeetsBelow 19 (site_of q l) → AllHold q (suc (length l.above))
+pub passes : (q : ChainQuestion) (l : Link) → Stands q.chain (suc (length l.above)) l → AllHold q (length l.above) → MeetsBelow 19 (site_of q l) → AllHold q (suc (length l.above))
 unfolding AllHold
 passes q l s before is j k low =
     elim (one_more j (length l.above) low) [
       | inl less ↦ before j k less
-      | inr here ↦ subst (λ (n : ℕ). Holds k q n) here (holds_at q (suc (length l.above)) l s k (all (site_of q l) is k))
+      | inr here ↦ subst (λ (n : ℕ). HoldsAt k q n) here (holds_at q (suc (length l.above)) l s k (all (site_of q l) is k))
     ]
 
-before_it : (q : Question) (l : Link) → Stands q.chain (suc (length l.above)) l → AllHold q (length l.above) → (k : Condition) → MeetsBelow (number_of k) (site_of q l)
-    → (j : ℕ) (m : Condition) → Precedes j m (suc (length l.above)) k → Holds m q j
+before_it : (q : ChainQuestion) (l : Link) → Stands q.chain (suc (length l.above)) l → AllHold q (length l.above) → (k : Condition) → MeetsBelow (number_of k) (site_of q l)
+    → (j : ℕ) (m : Condition) → Precedes j m (suc (length l.above)) k → HoldsAt m q j
 unfolding AllHold
 before_it q l s before k is j m (inl less) = before j m (omega (arith, less))
 before_it q l s before k is j m (inr here) =
-    subst (λ (n : ℕ). Holds m q n) (sym here.0) (holds_at q (suc (length l.above)) l s m (met (site_of q l) (number_of k) is m here.1))
+    subst (λ (n : ℕ). HoldsAt m q n) (sym here.0) (holds_at q (suc (length l.above)) l s m (met (site_of q l) (number_of k) is m here.1))
 
 -- the certificate fails: the least position and condition
-pub stops : (q : Question) (l : Link) (r : Reason) → Stands q.chain (suc (length l.above)) l → AllHold q (length l.above) → FailsFirst (site_of q l) r
+pub stops : (q : ChainQuestion) (l : Link) (r : Reason OidRef) → Stands q.chain (suc (length l.above)) l → AllHold q (length l.above) → FailsFirst (site_of q l) r
     → IsLeast q (suc (length l.above)) (condition_of r) × HasDetails q (suc (length l.above)) r
 stops q l r s before f = (
   record {
@@ -101,11 +104,11 @@ stops q l r s before f = (
 )
 
 -- all are passed
-pub all_pass : (q : Question) → AllHold q (length q.chain) → (i : ℕ) (k : Condition) → Holds k q i
-unfolding AllHold Holds
+pub all_pass : (q : ChainQuestion) → AllHold q (length q.chain) → (i : ℕ) (k : Condition) → HoldsAt k q i
+unfolding AllHold HoldsAt
 all_pass q before i k l s = before i k (within q.chain i l s).1 l s
 
-pub accepted : (q : Question) (l : Link) (policies : List Label) → Stands q.chain (length q.chain) l → ((p : Label) → In p policies ↔ Accepts (site_of q l) p)
+pub accepted : (q : ChainQuestion) (l : Link) (policies : List Label) → Stands q.chain (length q.chain) l → ((p : Label) → In p policies ↔ Accepts (site_of q l) p)
     → AreAscending policies → AreAccepted q policies
 accepted q l policies s are ascending = record {
   accepted = λ m t p. subst (λ (o : Link). In p policies ↔ Accepts (site_of q o) p) (one_link q.chain (length q.chain) l m s t) (are p);
@@ -140,18 +143,18 @@ split_first (y ∷ ys) x d some is = λ i. sym is i ∷ sym (all_taken ys) i
 -- ---- the walk and the definitions
 
 -- what the conditions look at, by the state that the walk has
-pub site_is : (q : Question) (above below : List Certificate) (c : Certificate) (s : State) (p : List CertPolicies) (last : Bool)
+pub site_is : (q : ChainQuestion) (above below : List Certificate) (c : Certificate) (s : PathState) (p : List CertPolicies) (last : Bool)
     → s ≡ state_at q.asked (length q.chain) above → p ≡ policies_above q.asked (length q.chain) above → last ≡ is_empty below
     → at q.asked s p c last ≡ site_of q (record { above = above; certificate = c; below = below })
 site_is q above below c s p last state policies end = λ i. record { asked = q.asked; state = state i; policies_above = policies i; certificate = c; last = end i }
 
 -- the policies at the next certificate
-pub policies_go_on : (q : Question) (above : List Certificate) (c : Certificate) (s : State) (p : List CertPolicies) (seen : Seen)
+pub policies_go_on : (q : ChainQuestion) (above : List Certificate) (c : Certificate) (s : PathState) (p : List CertPolicies) (seen : Seen)
     → s ≡ state_at q.asked (length q.chain) above → p ≡ policies_above q.asked (length q.chain) above → Took seen true (at q.asked s p c false)
     → seen ≡ record { certificates = policies_above q.asked (length q.chain) (c ∷ above); mapped = true }
 unfolding policies_above
 policies_go_on q above c s p seen state policies took = took ∙ (λ i. record { certificates = policies_at (state i) c false ∷ policies i; mapped = true })
 
-pub state_goes_on : (q : Question) (above : List Certificate) (c : Certificate) (s t : State) → s ≡ state_at q.asked (length q.chain) above → t ≡ state_after s c
+pub state_goes_on : (q : ChainQuestion) (above : List Certificate) (c : Certificate) (s t : PathState) → s ≡ state_at q.asked (length q.chain) above → t ≡ state_after s c
     → t ≡ state_at q.asked (length q.chain) (c ∷ above)
-state_goes_on q above c s t state is = is ∙ (ap (λ (u : State). state_after u c) state ∙ sym (state_next q.asked (length q.chain) c above))
+state_goes_on q above c s t state is = is ∙ (ap (λ (u : PathState). state_after u c) state ∙ sym (state_next q.asked (length q.chain) c above))

@@ -15,7 +15,7 @@ pub record TrustAnchor : Type 0 where
   pub purposes : Option (List (List ℕ))
 
 -- the inputs of path validation beside the chain
-pub record Asked : Type 0 where
+pub record ValidationInputs : Type 0 where
   pub anchor : TrustAnchor
   -- the moment of the validation (6.1.1 (b))
   pub moment : ℤ

@@ -1,11 +1,11 @@
 -- A chain of certificates, and the place of each (RFC 5280 6.1).
 use Rattle.std.specs.Prelude.{◌≡◌, ℕ, suc, Bool, true, false, List, [], ◌∷◌, length}
 use Rattle.ts_cert.specs.Certificate.{Certificate}
-use Rattle.ts_path.specs.Asked.{Asked}
+use Rattle.ts_path.specs.Asked.{ValidationInputs}
 
 -- what is asked, and the chain from the anchor's side to the target
-pub record Question : Type 0 where
-  pub asked : Asked
+pub record ChainQuestion : Type 0 where
+  pub asked : ValidationInputs
   pub chain : List Certificate
 
 -- a certificate of a chain, those above it (towards the anchor, the nearest first) and those below

@@ -1,6 +1,5 @@
 -- The conditions of path validation (RFC 5280 6.1.3 to 6.1.5), each a statement on what is asked,
--- the state variables at a certificate, and the certificate. They are numbered in the order in
--- which they are given as reasons.
+-- the state variables at a certificate, and the certificate.
 use Rattle.std.specs.Prelude.{◌≡◌, ◌≢◌, ℕ, zero, ◌-◌, ◌==◌, nat_lt, ◌≤ℤ◌, not, ◌||◌, Bool, true}
 use Rattle.std.specs.Prelude.{false, List, ◌∷◌, Option, Some, None, IsTrue}
 use Rattle.ts_name.specs.Sameness.{canon_name}
@@ -15,53 +14,37 @@ use Rattle.ts_policy.specs.Accepted.{IsAccepted}
 use Rattle.ts_revoke.specs.declared.verdict.Status.{Status}
 use Rattle.ts_revoke.specs.declared.verdict.Status.TheVariants.{Revoked, Undetermined}
 use Rattle.ts_revoke.specs.Status.{status_of}
-use Rattle.ts_path.specs.Asked.{TrustAnchor, Asked}
+use Rattle.ts_reason.specs.Conditions.{Condition, anchor_purpose, signature, too_early, expired}
+use Rattle.ts_reason.specs.Conditions.{revoked, undetermined, issuer_name, unsupported_constraint}
+use Rattle.ts_reason.specs.Conditions.{not_permitted, excluded, policy_required, maps_any, not_ca}
+use Rattle.ts_reason.specs.Conditions.{path_length, key_usage, critical_extension, final_policy}
+use Rattle.ts_reason.specs.Conditions.{purpose}
+use Rattle.ts_path.specs.Asked.{TrustAnchor, ValidationInputs}
 use Rattle.ts_path.specs.Names.{is_self_issued}
 use Rattle.ts_path.specs.Purposes.{allow}
 use Rattle.ts_path.specs.Extensions.{is_ca, may_sign, purposes_of, explicit_policy_of}
 use Rattle.ts_path.specs.Extensions.{first_refused}
-use Rattle.ts_path.specs.State.{State, policies_at}
+use Rattle.ts_path.specs.State.{PathState, policies_at}
 
 -- what the conditions at a certificate look at: the question, the state variables, what the
 -- certificates above state of policies (the nearest first), the certificate, and whether it is the
 -- last
 pub record Site : Type 0 where
-  pub asked : Asked
-  pub state : State
+  pub asked : ValidationInputs
+  pub state : PathState
   pub policies_above : List CertPolicies
   pub certificate : Certificate
   pub last : Bool
-
--- all conditions, by the names of the reasons
-pub data Condition : Type 0 where
-  anchor_purpose : Condition
-  signature : Condition
-  too_early : Condition
-  expired : Condition
-  revoked : Condition
-  undetermined : Condition
-  issuer_name : Condition
-  unsupported_constraint : Condition
-  not_permitted : Condition
-  excluded : Condition
-  policy_required : Condition
-  maps_any : Condition
-  not_ca : Condition
-  path_length : Condition
-  key_usage : Condition
-  critical_extension : Condition
-  final_policy : Condition
-  purpose : Condition
 
 -- ---- the place in the chain
 
 -- the anchor is trusted for the purpose that is asked, if one is: a condition on the first
 -- certificate alone
-abbrev pub is_trusted : TrustAnchor → Option (List ℕ) → State → Bool
+abbrev pub is_trusted : TrustAnchor → Option (List ℕ) → PathState → Bool
 is_trusted anchor wanted s = not (s.passed == 0) || allow wanted anchor.purposes
 
 -- the path may go on after a certificate: it is self-issued, or max_path_length is above 0
-abbrev pub may_go_on : State → Certificate → Bool
+abbrev pub may_go_on : PathState → Certificate → Bool
 may_go_on s c = is_self_issued c || nat_lt 0 s.counters.max_path_length
 
 -- ---- names
@@ -152,23 +135,3 @@ Meets final_policy x = x.last ≡ true
 -- its purposes, if it states some, allow the one that is asked: 4.2.1.12
 Meets purpose x = x.last ≡ true
     → IsTrue (allow x.asked.purpose (purposes_of x.certificate.tbsCertificate))
-
-abbrev pub number_of : Condition → ℕ
-number_of anchor_purpose = 1
-number_of signature = 2
-number_of too_early = 3
-number_of expired = 4
-number_of revoked = 5
-number_of undetermined = 6
-number_of issuer_name = 7
-number_of unsupported_constraint = 8
-number_of not_permitted = 9
-number_of excluded = 10
-number_of policy_required = 11
-number_of maps_any = 12
-number_of not_ca = 13
-number_of path_length = 14
-number_of key_usage = 15
-number_of critical_extension = 16
-number_of final_policy = 17
-number_of purpose = 18

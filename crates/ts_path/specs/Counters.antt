@@ -1,7 +1,7 @@
 -- The counters explicit_policy, policy_mapping, inhibit_anyPolicy and max_path_length (RFC 5280
 -- 6.1.2 (d), (e), (f), (k)) at a certificate: each is the least of what the start and the bounds
 -- above leave.
-use Rattle.std.specs.Prelude.{ℕ, ◌+◌, ◌-◌, min, Bool, true, false, List, [], ◌∷◌, Option, Some}
+use Rattle.std.specs.Prelude.{ℕ, ◌+◌, ◌-◌, min, List, [], ◌∷◌, Option, Some}
 use Rattle.std.specs.Prelude.{None, if◌then◌else◌}
 use Rattle.ts_cert.specs.Certificate.{Certificate}
 use Rattle.ts_path.specs.Names.{is_self_issued}

@@ -15,9 +15,9 @@ use Rattle.ts_ext.specs.Policies.{Information, Qualifier}
 use Rattle.ts_ext.specs.Reading.{basic_constraints_of, key_usage_of, policy_constraints_of}
 use Rattle.ts_ext.specs.Reading.{certificate_policies_of, ext_key_usage_of, skip_certs_of}
 use Rattle.ts_cert.specs.declared.version.Version.{Version}
-use Rattle.ts_cert.specs.declared.version.Version.TheVariants.{V1, V2, V3}
+use Rattle.ts_cert.specs.declared.version.Version.TheVariants.{V3}
 use Rattle.ts_cert.specs.Certificate.{Tbs, all_extensions}
-use Rattle.ts_cert.specs.Stated.{stated}
+use Rattle.ts_cert.specs.Stated.{stated_value}
 
 -- ---- certificates of authorities
 
@@ -32,7 +32,8 @@ says_ca (Some b) = b.ca
 -- the certificate is of version 3 and basicConstraints has cA TRUE (6.1.4 (k)); this profile takes
 -- no earlier version for a CA's
 abbrev pub is_ca : Tbs → Bool
-is_ca t = is_v3 t.version && says_ca (stated extension.BasicConstraints basic_constraints_of t)
+is_ca t = is_v3 t.version && says_ca
+    (stated_value extension.BasicConstraints basic_constraints_of t)
 
 -- keyUsage, if it is stated, has keyCertSign (6.1.4 (n))
 abbrev pub allows_signing : Option (List Bool) → Bool
@@ -40,33 +41,33 @@ allows_signing None = true
 allows_signing (Some bits) = bit 5 bits
 
 abbrev pub may_sign : Tbs → Bool
-may_sign t = allows_signing (stated extension.KeyUsage key_usage_of t)
+may_sign t = allows_signing (stated_value extension.KeyUsage key_usage_of t)
 
 -- the purposes of extKeyUsage, if it is stated (4.2.1.12)
 abbrev pub purposes_of : Tbs → Option (List (List ℕ))
-purposes_of t = stated extension.ExtendedKeyUsage ext_key_usage_of t
+purposes_of t = stated_value extension.ExtendedKeyUsage ext_key_usage_of t
 
 -- ---- bounds of counters
 
 -- pathLenConstraint (6.1.4 (m))
 abbrev pub path_length_of : Tbs → Option ℕ
 path_length_of t = option_and_then (λ b. b.path_len_constraint)
-    (stated extension.BasicConstraints basic_constraints_of t)
+    (stated_value extension.BasicConstraints basic_constraints_of t)
 
 abbrev pub constraints_of : Tbs → Option PolicyConstraints
-constraints_of t = stated extension.PolicyConstraints policy_constraints_of t
+constraints_of t = stated_value extension.PolicyConstraints policy_constraints_of t
 
 -- requireExplicitPolicy (6.1.4 (i) (1))
 abbrev pub explicit_policy_of : Tbs → Option ℕ
 explicit_policy_of t = option_and_then (λ p. p.require_explicit_policy) (constraints_of t)
 
 -- inhibitPolicyMapping (6.1.4 (i) (2))
-abbrev pub policy_mapping_of : Tbs → Option ℕ
-policy_mapping_of t = option_and_then (λ p. p.inhibit_policy_mapping) (constraints_of t)
+abbrev pub inhibit_policy_mapping_of : Tbs → Option ℕ
+inhibit_policy_mapping_of t = option_and_then (λ p. p.inhibit_policy_mapping) (constraints_of t)
 
 -- inhibitAnyPolicy (6.1.4 (j))
 abbrev pub any_policy_of : Tbs → Option ℕ
-any_policy_of t = stated extension.InhibitAnyPolicy skip_certs_of t
+any_policy_of t = stated_value extension.InhibitAnyPolicy skip_certs_of t
 
 -- ---- critical extensions
 
@@ -89,7 +90,7 @@ is_qualified p = list_any is_other (unwrap_or p.policyQualifiers [])
 -- to interpret its qualifiers
 abbrev pub has_other_qualifier : Tbs → Bool
 has_other_qualifier t = list_any is_qualified
-    (unwrap_or (stated extension.CertificatePolicies certificate_policies_of t) [])
+    (unwrap_or (stated_value extension.CertificatePolicies certificate_policies_of t) [])
 
 -- the extension is one of those that this profile processes in a certificate
 abbrev pub is_processed : Tbs → List ℕ → Bool

@@ -9,5 +9,4 @@ pub mod State
 pub mod Conditions
 pub mod Verdict
 pub mod View
-pub mod Judging
-pub mod Printed
+pub mod inside

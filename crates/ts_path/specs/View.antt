@@ -12,9 +12,9 @@ use Rattle.ts_revoke.specs.declared.crls.Crls.{Crls}
 use Rattle.ts_policy.specs.Paths.{CertPolicies}
 use Rattle.ts_path.specs.declared.anchor.Anchor.{Anchor}
 use Rattle.ts_path.specs.declared.inputs.Inputs.{Inputs}
-use Rattle.ts_path.specs.Asked.{TrustAnchor, Asked}
-use Rattle.ts_path.specs.Chain.{Question}
-use Rattle.ts_path.specs.State.{State}
+use Rattle.ts_path.specs.Asked.{TrustAnchor, ValidationInputs}
+use Rattle.ts_path.specs.Chain.{ChainQuestion}
+use Rattle.ts_path.specs.State.{PathState}
 use Rattle.ts_path.specs.Conditions.{Site}
 
 abbrev pub anchor_in : Anchor → TrustAnchor
@@ -26,12 +26,12 @@ anchor_in a = record {
 
 -- what is asked of a chain under a trust anchor
 abbrev pub asked_under : Inputs → Crls → (List ℕ → Key → List ℕ → List ℕ → Bool) → TrustAnchor
-    → Asked
+    → ValidationInputs
 asked_under inputs crls good anchor = record {
   anchor = anchor;
   moment = inputs.moment;
   purpose = option_map (λ p. p.now) inputs.purpose;
-  user_policies = map (λ p. p.now) inputs.user_policies.now;
+  user_policies = map (λ p. p.content.now) inputs.user_policies.now;
   explicit_policy = inputs.explicit_policy;
   inhibit_policy_mapping = inputs.inhibit_policy_mapping;
   inhibit_any_policy = inputs.inhibit_any_policy;
@@ -46,20 +46,21 @@ asked_under inputs crls good anchor = record {
   good = good;
 }
 
-abbrev pub asked_in : Anchor → Inputs → Crls → (List ℕ → Key → List ℕ → List ℕ → Bool) → Asked
+abbrev pub asked_in : Anchor → Inputs → Crls → (List ℕ → Key → List ℕ → List ℕ → Bool)
+    → ValidationInputs
 asked_in anchor inputs crls good = asked_under inputs crls good (anchor_in anchor)
 
 abbrev pub question_in : Anchor → List Cert → Inputs → Crls
-    → (List ℕ → Key → List ℕ → List ℕ → Bool) → Question
+    → (List ℕ → Key → List ℕ → List ℕ → Bool) → ChainQuestion
 question_in anchor chain inputs crls good =
     record { asked = asked_in anchor inputs crls good; chain = map cert_in chain }
 
 -- what the conditions at a certificate look at
-abbrev pub at : Asked → State → List CertPolicies → Certificate → Bool → Site
+abbrev pub at : ValidationInputs → PathState → List CertPolicies → Certificate → Bool → Site
 at asked state above c last = record
     { asked = asked; state = state; policies_above = above; certificate = c; last = last }
 
-abbrev pub site_in : Anchor → Inputs → Crls → (List ℕ → Key → List ℕ → List ℕ → Bool) → State
+abbrev pub site_in : Anchor → Inputs → Crls → (List ℕ → Key → List ℕ → List ℕ → Bool) → PathState
     → List CertPolicies → Certificate → Bool → Site
 site_in anchor inputs crls good state above c last =
     at (asked_in anchor inputs crls good) state above c last

@@ -3,9 +3,10 @@
 ghost use Rattle.std.specs.Prelude.{◌≡◌, ◌<◌, ◌-◌};
 ghost use Rattle.ts_cert.specs.CertView.{cert_in};
 ghost use Rattle.ts_path.specs.Counters.{counted};
-ghost use Rattle.ts_path.specs.Extensions.{path_length_of, explicit_policy_of, policy_mapping_of};
+ghost use Rattle.ts_path.specs.Extensions.{path_length_of, explicit_policy_of};
+ghost use Rattle.ts_path.specs.Extensions.{inhibit_policy_mapping_of};
 ghost use Rattle.ts_path.specs.Extensions.{any_policy_of};
-ghost use Rattle.ts_path.specs.Judging.{lowered, counters_after};
+ghost use Rattle.ts_path.specs.inside.Judging.{lowered, counters_after};
 ghost use Rattle.ts_path.specs.State.{start};
 
 use crate::inputs::Inputs;
@@ -88,7 +89,7 @@ pub(crate) fn explicit_policy(cert: &Cert<'_>) -> Option<u32>
 
 /// inhibitPolicyMapping (RFC 5280 4.2.1.11).
 fn policy_mapping(cert: &Cert<'_>) -> Option<u32>
-    ensures { result ≡ policy_mapping_of (cert_in cert.now).tbsCertificate }
+    ensures { result ≡ inhibit_policy_mapping_of (cert_in cert.now).tbsCertificate }
 {
     cert.policy_constraints()?.inhibit_policy_mapping
 }

@@ -2,19 +2,20 @@
 
 ghost use Rattle.std.specs.Prelude.{◌≡◌, [], None, false};
 
+use ts_der::OidRef;
 use ts_name::Subtree;
 use ts_time::Moment;
 
-/// The inputs of path validation (RFC 5280 6.1.1). Policies and purposes are the content octets of
-/// their object identifiers.
+/// The inputs of path validation (RFC 5280 6.1.1).
 #[derive(Clone, Copy)]
 pub struct Inputs<'a> {
     /// The moment at which the chain is judged (6.1.1 (b)).
     pub moment: Moment,
-    /// The purpose that the target is to have, if one is asked for.
+    /// The purpose that the target is to have, if one is asked for, as the content octets of its
+    /// object identifier.
     pub purpose: Option<&'a [u8]>,
     /// The policies that the user accepts (6.1.1 (c)); none stands for any.
-    pub user_policies: &'a [&'a [u8]],
+    pub user_policies: &'a [OidRef<'a>],
     /// Whether a policy has to be valid for the chain (6.1.1 (f)).
     pub explicit_policy: bool,
     /// Whether policies may not be mapped (6.1.1 (e)).

@@ -4,7 +4,7 @@ ghost use Rattle.std.specs.Prelude.{◌≡◌, ◌↔◌, ◌≤ℤ◌, IfOk, Is
 ghost use Rattle.std.specs.Prelude.{option_map};
 ghost use Rattle.ts_name.specs.Sameness.{canon_name};
 ghost use Rattle.ts_cert.specs.CertView.{cert_in};
-ghost use Rattle.ts_constraint.specs.Conditions.{IsExempt, IsAnswer};
+ghost use Rattle.ts_constraint.specs.Conditions.{IsExempt, IsBoundsAnswer};
 ghost use Rattle.ts_constraint.specs.Names.{names_of};
 ghost use Rattle.ts_policy.specs.Certificates.{policies_in};
 ghost use Rattle.ts_policy.specs.Labels.{Path};
@@ -12,25 +12,26 @@ ghost use Rattle.ts_policy.specs.Paths.{CertPolicies};
 ghost use Rattle.ts_policy.specs.Seen.{InPaths};
 ghost use Rattle.ts_revoke.specs.declared.crls.Crls.{Crls as CrlsOf};
 ghost use Rattle.ts_path.specs.declared.anchor.Anchor.{Anchor as AnchorOf};
-ghost use Rattle.ts_path.specs.Asked.{Asked};
+ghost use Rattle.ts_path.specs.Asked.{ValidationInputs};
 ghost use Rattle.ts_path.specs.Conditions.{Site, status_at, final_explicit as final_explicit_of};
 ghost use Rattle.ts_path.specs.Conditions.{is_trusted as is_trusted_of, may_go_on as may_go_on_of};
 ghost use Rattle.ts_path.specs.Extensions.{explicit_policy_of};
 ghost use Rattle.ts_path.specs.State.{policies_at};
 ghost use Rattle.ts_path.specs.View.{anchor_in, site_in, at};
-ghost use Rattle.ts_path.specs.Judging.{MeetsBelow, Finds};
+ghost use Rattle.ts_path.specs.inside.Judging.{MeetsBelow, Finds};
 
 use crate::anchor::Anchor;
 use crate::counters::explicit_policy;
 use crate::extensions::{first_refused, is_ca, is_meant_for, is_trusted_for, may_sign};
 use crate::inputs::Inputs;
-use crate::reason::Reason;
 use crate::self_issued::is_self_issued;
 use crate::state::State;
 use std::alloc::{AllocError, Global};
 use ts_cert::Cert;
 use ts_constraint::NameFault;
+use ts_der::OidRef;
 use ts_policy::{Certificate, Policies};
+use ts_reason::Reason;
 use ts_revoke::{Crls, Issuer, Status, status};
 use ts_sig::{Message, SignatureCheck};
 
@@ -85,7 +86,7 @@ impl<'a> State<'a> {
     fn check_names(&self, cert: &Cert<'a>, last: bool) -> Result<(), NameFault>
         ensures exempt { IsExempt (cert_in cert.now).tbsCertificate last → result ≡ Ok tt }
         ensures checked { ¬ (IsExempt (cert_in cert.now).tbsCertificate last)
-            → IsAnswer self.now.sources (names_of (cert_in cert.now).tbsCertificate) result }
+            → IsBoundsAnswer self.now.sources (names_of (cert_in cert.now).tbsCertificate) result }
     {
         self.bounds.check(cert, last)
     }
@@ -106,7 +107,7 @@ impl<'a> State<'a> {
         inputs: &Inputs<'a>,
         check: &S,
         cert: &Cert<'a>,
-    ) -> Option<Reason<'a>>
+    ) -> Option<Reason<OidRef<'a>>>
         ensures { (crls : CrlsOf) (above : List CertPolicies) (last : Bool)
             → Finds 5 (site_in anchor.now inputs.now crls (S.accepts check.now) self.now above
             (cert_in cert.now) last) result }
@@ -152,7 +153,7 @@ impl<'a> State<'a> {
         crls: &Crls<'_>,
         check: &S,
         cert: &Cert<'a>,
-    ) -> Option<Reason<'a>>
+    ) -> Option<Reason<OidRef<'a>>>
         ensures { (anchor : AnchorOf) (above : List CertPolicies) (last : Bool)
             → let x = site_in anchor inputs.now crls.now (S.accepts check.now) self.now above
             (cert_in cert.now) last in MeetsBelow 5 x → Finds 7 x result }
@@ -179,7 +180,7 @@ impl<'a> State<'a> {
         check: &S,
         cert: &Cert<'a>,
         last: bool,
-    ) -> Option<Reason<'a>>
+    ) -> Option<Reason<OidRef<'a>>>
         ensures { (above : List CertPolicies)
             → Finds 11 (site_in anchor.now inputs.now crls.now (S.accepts check.now) self.now above
             (cert_in cert.now) last) result }
@@ -194,8 +195,8 @@ impl<'a> State<'a> {
     }
 
     /// The first condition on names that the certificate does not meet.
-    fn first_of_names(&self, cert: &Cert<'a>, last: bool) -> Option<Reason<'a>>
-        ensures { (asked : Asked) (above : List CertPolicies)
+    fn first_of_names(&self, cert: &Cert<'a>, last: bool) -> Option<Reason<OidRef<'a>>>
+        ensures { (asked : ValidationInputs) (above : List CertPolicies)
             → MeetsBelow 7 (at asked self.now above (cert_in cert.now) last)
             → Finds 11 (at asked self.now above (cert_in cert.now) last) result }
     {
@@ -212,8 +213,8 @@ impl<'a> State<'a> {
 
     /// The first condition on a certificate that issues another that it does not meet, but for that
     /// on its policies.
-    pub(crate) fn first_of_issuer(&self, cert: &Cert<'a>) -> Option<Reason<'a>>
-        ensures { (asked : Asked) (above : List CertPolicies)
+    pub(crate) fn first_of_issuer(&self, cert: &Cert<'a>) -> Option<Reason<OidRef<'a>>>
+        ensures { (asked : ValidationInputs) (above : List CertPolicies)
             → MeetsBelow 13 (at asked self.now above (cert_in cert.now) false)
             → Finds 16 (at asked self.now above (cert_in cert.now) false) result }
     {
@@ -272,14 +273,15 @@ impl<'a> State<'a> {
 }
 
 /// Whether a policy is required at the end, and none is accepted.
-pub(crate) fn accepts_none(explicit_policy: u32, accepted: &[&[u8]]) -> bool
-    ensures { IsTrue result ↔ ((explicit_policy ≡ 0) × (map (λ p. p.now) accepted.now ≡ [])) }
+pub(crate) fn accepts_none(explicit_policy: u32, accepted: &[OidRef<'_>]) -> bool
+    ensures { IsTrue result ↔ ((explicit_policy ≡ 0)
+        × (map (λ p. p.content.now) accepted.now ≡ [])) }
 {
     explicit_policy == 0 && accepted.is_empty()
 }
 
 /// The first critical extension that is not processed, as a reason.
-pub(crate) fn first_of_extensions<'a>(cert: &Cert<'a>) -> Option<Reason<'a>>
+pub(crate) fn first_of_extensions<'a>(cert: &Cert<'a>) -> Option<Reason<OidRef<'a>>>
     ensures { (x : Site) → x.certificate ≡ cert_in cert.now → MeetsBelow 16 x → Finds 17 x result }
 {
     match first_refused(cert) {

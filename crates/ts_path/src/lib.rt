@@ -22,10 +22,7 @@
 //!   else of it.
 //! - `Inputs::at`: the inputs that ask for nothing but a moment (`moment`, `purpose`, `policies`,
 //!   `names`, `revocation`).
-//! - `Reason::number`: the number of the condition.
-//! - `Display` of `Reason`: what is printed is its name; after `Revoked` a space and the number of
-//!   the reason in decimal, after `CriticalExtension` a space and the object identifier in dotted
-//!   form (`output`).
+//! - A reason is one of `ts_reason`, whose object identifier lies in the certificate.
 //! - law (`laws`): a question has one verdict (`one_verdict`: `least`, `invalid`).
 //!
 //! Each condition is a statement of its own on what is asked, the state variables of RFC 5280 6.1.2
@@ -50,7 +47,6 @@ mod inputs;
 mod judging;
 pub mod laws;
 mod path;
-mod reason;
 mod self_issued;
 mod state;
 mod verdict;
@@ -60,5 +56,4 @@ mod working_key;
 pub use anchor::Anchor;
 pub use inputs::Inputs;
 pub use path::{MAX_CHAIN, validate};
-pub use reason::Reason;
 pub use verdict::Verdict;

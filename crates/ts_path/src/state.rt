@@ -4,7 +4,7 @@ ghost use Rattle.std.specs.Prelude.{◌≡◌, ◌<◌, ◌+◌, ℕ, Bool, List
 ghost use Rattle.ts_cert.specs.CertView.{cert_in};
 ghost use Rattle.ts_sig.specs.Key.{Key};
 ghost use Rattle.ts_revoke.specs.declared.crls.Crls.{Crls as CrlsOf};
-ghost use Rattle.ts_path.specs.Judging.{state_after};
+ghost use Rattle.ts_path.specs.inside.Judging.{state_after};
 ghost use Rattle.ts_path.specs.State.{state_at};
 ghost use Rattle.ts_path.specs.View.{asked_in};
 
@@ -40,9 +40,9 @@ impl<'a> Model for State<'a> {
     ghost use Rattle.ts_der.specs.BitsView.{bits_in};
     ghost use Rattle.ts_name.specs.NameView.{rdns_in};
     ghost use Rattle.ts_sig.specs.Key.{key_of};
-    ghost use Rattle.ts_path.specs.State.{State};
+    ghost use Rattle.ts_path.specs.State.{PathState};
 
-    ghost Value = { State };
+    ghost Value = { PathState };
 
     ghost view = { λ s. record {
       passed = s.passed;

@@ -6,17 +6,18 @@ ghost use Rattle.ts_sig.specs.Key.{Key};
 ghost use Rattle.ts_revoke.specs.declared.crls.Crls.{Crls as CrlsOf};
 ghost use Rattle.ts_path.specs.State.{state_at};
 ghost use Rattle.ts_path.specs.View.{asked_in, site_in};
-ghost use Rattle.ts_path.specs.Judging.{IsJudged, IsStep, IsEnd};
+ghost use Rattle.ts_path.specs.inside.Judging.{IsJudged, IsStep, IsEnd};
 
 use crate::anchor::Anchor;
 use crate::extensions::is_meant_for;
 use crate::inputs::Inputs;
 use crate::judging::{accepts_none, first_of_extensions};
-use crate::reason::Reason;
 use crate::state::State;
 use std::alloc::{AllocError, Global};
 use ts_cert::Cert;
+use ts_der::OidRef;
 use ts_policy::Policies;
+use ts_reason::Reason;
 use ts_revoke::Crls;
 use ts_sig::SignatureCheck;
 
@@ -33,7 +34,7 @@ pub(crate) enum Judged<'a> {
     /// The certificate meets them.
     Met(Met<'a>),
     /// The first that it does not meet.
-    Failed(Reason<'a>),
+    Failed(Reason<OidRef<'a>>),
 }
 
 /// The state variables once the policies of a certificate are taken.
@@ -51,16 +52,16 @@ pub(crate) enum Step<'a> {
     /// The state at the next certificate.
     Next(Walk<'a>),
     /// The first condition that the certificate does not meet.
-    Stop(Reason<'a>),
+    Stop(Reason<OidRef<'a>>),
 }
 
 /// What the last certificate leads to.
 #[derive(Drop)]
 pub(crate) enum End<'a> {
     /// The policies that are accepted.
-    Accepted(Vec<&'a [u8]>),
+    Accepted(Vec<OidRef<'a>>),
     /// The first condition that the certificate does not meet.
-    Refused(Reason<'a>),
+    Refused(Reason<OidRef<'a>>),
 }
 
 impl<'a> Walk<'a> {

@@ -4,8 +4,8 @@ ghost use Rattle.std.specs.Prelude.{◌≡◌};
 ghost use Rattle.std.specs.Option.{option_copied};
 ghost use Rattle.ts_sig.specs.Key.{key_of};
 ghost use Rattle.ts_cert.specs.View.{key_in};
-ghost use Rattle.ts_path.specs.WorkingKey.{stated, own};
-ghost use Rattle.ts_path.specs.Judging.{key_after as after};
+ghost use Rattle.ts_path.specs.WorkingKey.{parameters_stated, own};
+ghost use Rattle.ts_path.specs.inside.Judging.{key_after as after};
 
 use ts_cert::SubjectPublicKeyInfo;
 use ts_sig::WorkingKey;
@@ -15,7 +15,7 @@ const NULL: [u8; 2] = [0x05, 0x00];
 
 /// Parameters that are not NULL.
 fn stated_parameters(parameters: Option<&[u8]>) -> Option<&[u8]>
-    ensures { option_copied result ≡ stated (option_copied parameters.entry) }
+    ensures { option_copied result ≡ parameters_stated (option_copied parameters.entry) }
 {
     match parameters {
         Some(element) if element != NULL.as_slice() => Some(element),

@@ -7,7 +7,9 @@ use Rattle.std.proofs.lemmas.List.{append-nil}
 use Rattle.ts_pem.specs.declared.block.Label.{Label}
 use Rattle.ts_pem.specs.declared.fault.PemFault.{PemFault}
 use Rattle.ts_pem.specs.declared.fault.PemFault.TheVariants.{NoEnd, OtherEnd, NotBase64, OutOfMemory}
-use Rattle.ts_pem.specs.Pem.{Reading, PemBlock, Open, step, trimmed, blocks_from, at_end, and_then, inside, outside, ended, label_of, end_line, is_end, is_begin, is_symbol, decoded, blocks_of, lines}
+use Rattle.ts_pem.specs.Pem.{Reading, PemBlock, Open, step, without_blanks, blocks_from, at_end}
+use Rattle.ts_pem.specs.Pem.{and_then, inside, outside, end_block, label_of, end_line, is_end}
+use Rattle.ts_pem.specs.Pem.{is_begin, is_symbol, decode, blocks_of, lines}
 use Rattle.ts_pem.specs.Files.{Gives}
 use Rattle.ts_pem.specs.Blocks.{AreBlocks, IsFirst, IsOutside, IsInside, base64_of}
 use Rattle.ts_pem.proofs.Symbols.{not_own_end, not_end, not_begin}
@@ -32,16 +34,16 @@ over_one n line rest done none =
 -- a line of base64 is put behind those before
 take_one : (n : ℕ) (line : List ℕ) (rest : List (List ℕ)) (done : List PemBlock) (o : Open)
     → IsInside line → blocks_from n (line ∷ rest) (within done o)
-    ≡ blocks_from (n + 1) rest (within done (record o { body = o.body ++ trimmed line }))
+    ≡ blocks_from (n + 1) rest (within done (record o { body = o.body ++ without_blanks line }))
 unfolding blocks_from
 take_one n line rest done o all =
-    let a = not_own_end o.label (trimmed line) all in
-    let b = not_end (trimmed line) all in
-    let d = not_begin (trimmed line) all in
+    let a = not_own_end o.label (without_blanks line) all in
+    let b = not_end (without_blanks line) all in
+    let d = not_begin (without_blanks line) all in
     rw (a, b, d, all) refl
 
 begins_one : (n : ℕ) (line : List ℕ) (rest : List (List ℕ)) (done : List PemBlock) (label : Label)
-    → label_of (trimmed line) ≡ Some label → blocks_from n (line ∷ rest) (out_of done)
+    → label_of (without_blanks line) ≡ Some label → blocks_from n (line ∷ rest) (out_of done)
     ≡ blocks_from (n + 1) rest (within done (record { label = label; line = n; body = [] }))
 unfolding blocks_from
 begins_one n line rest done label is =
@@ -51,8 +53,8 @@ begins_one n line rest done label is =
     })) is
 
 ends_one : (n : ℕ) (line : List ℕ) (rest : List (List ℕ)) (done : List PemBlock) (o : Open)
-    (octets : List ℕ) → bytes_eq (trimmed line) (end_line o.label) ≡ true
-    → decoded o.body ≡ Some octets → blocks_from n (line ∷ rest) (within done o)
+    (octets : List ℕ) → bytes_eq (without_blanks line) (end_line o.label) ≡ true
+    → decode o.body ≡ Some octets → blocks_from n (line ∷ rest) (within done o)
     ≡ blocks_from (n + 1) rest (out_of (done ++ record { label = o.label; octets = octets } ∷ []))
 unfolding blocks_from
 ends_one n line rest done o octets is encodes = rw (is, encodes) refl
@@ -72,12 +74,12 @@ gather : (body rest : List (List ℕ)) (n : ℕ) (done : List PemBlock) (o : Ope
 gather [] rest n done o all =
     (n, ap (λ (b : List ℕ). blocks_from n rest (within done (record o { body = b }))) (sym (append-nil o.body)))
 gather (line ∷ body) rest n done o all =
-    let next : Open = record o { body = o.body ++ trimmed line } in
+    let next : Open = record o { body = o.body ++ without_blanks line } in
     let h = gather body rest (n + 1) done next all.1 in (
       h.0,
       take_one n line (body ++ rest) done o all.0 ∙ h.1
           ∙ ap (λ (b : List ℕ). blocks_from h.0 rest (within done (record o { body = b })))
-          (append_assoc o.body (trimmed line) (base64_of body)),
+          (append_assoc o.body (without_blanks line) (base64_of body)),
     )
 
 over_all : (lines : List (List ℕ)) (n : ℕ) (done : List PemBlock) → AllByRecursion IsOutside lines
@@ -114,8 +116,8 @@ record Closes (lines : List (List ℕ)) (done : List PemBlock) (o : Open) (all :
   blocks : List PemBlock
   lines_are : lines ≡ body ++ end ∷ rest
   inside : AllByRecursion IsInside body
-  encodes : decoded (o.body ++ base64_of body) ≡ Some octets
-  ends : bytes_eq (trimmed end) (end_line o.label) ≡ true
+  encodes : decode (o.body ++ base64_of body) ≡ Some octets
+  ends : bytes_eq (without_blanks end) (end_line o.label) ≡ true
   all_are : all ≡ done ++ record { label = o.label; octets = octets } ∷ blocks
   are_blocks : AreBlocks rest blocks
 
@@ -150,7 +152,7 @@ passed line lines (block ∷ blocks) none h = (
 
 out_case : (line : List ℕ) (lines : List (List ℕ)) → Out lines → In lines → (n : ℕ)
     (done all : List PemBlock) → blocks_from n (line ∷ lines) (out_of done) ≡ Ok all
-    → (o : Option Label) → label_of (trimmed line) ≡ o
+    → (o : Option Label) → label_of (without_blanks line) ≡ o
     → (blocks : List PemBlock) × (all ≡ done ++ blocks) × AreBlocks (line ∷ lines) blocks
 out_case line lines out in' n done all e None is =
     let h = out (n + 1) done all (sym (over_one n line lines done is) ∙ e) in
@@ -184,15 +186,15 @@ err_ok r fault all e f = cc
 
 -- a block that ends with no base64 is a fault
 not_decoded : (n : ℕ) (line : List ℕ) (rest : List (List ℕ)) (done : List PemBlock) (o : Open)
-    → bytes_eq (trimmed line) (end_line o.label) ≡ true → decoded o.body ≡ None
+    → bytes_eq (without_blanks line) (end_line o.label) ≡ true → decode o.body ≡ None
     → blocks_from n (line ∷ rest) (within done o) ≡ Err (NotBase64 n)
 unfolding blocks_from
 not_decoded n line rest done o is none = rw (is, none) refl
 
 -- and so is a line that is neither the end nor base64
 not_inside : (n : ℕ) (line : List ℕ) (rest : List (List ℕ)) (done : List PemBlock) (o : Open)
-    → bytes_eq (trimmed line) (end_line o.label) ≡ false → list_all is_symbol (trimmed line) ≡ false
-    → (a b : Bool) → is_end (trimmed line) ≡ a → is_begin (trimmed line) ≡ b
+    → bytes_eq (without_blanks line) (end_line o.label) ≡ false → list_all is_symbol (without_blanks line) ≡ false
+    → (a b : Bool) → is_end (without_blanks line) ≡ a → is_begin (without_blanks line) ≡ b
     → (fault : PemFault) × (blocks_from n (line ∷ rest) (within done o) ≡ Err fault)
 unfolding blocks_from
 not_inside n line rest done o other odd true b ends begins = (OtherEnd n, rw (other, ends) refl)
@@ -204,8 +206,8 @@ not_inside n line rest done o other odd false false ends begins =
 in_case : (line : List ℕ) (lines : List (List ℕ)) → Out lines → In lines → (n : ℕ)
     (done : List PemBlock) (o : Open) (all : List PemBlock)
     → blocks_from n (line ∷ lines) (within done o) ≡ Ok all → (own all_symbols : Bool)
-    (octets : Option (List ℕ)) → bytes_eq (trimmed line) (end_line o.label) ≡ own
-    → list_all is_symbol (trimmed line) ≡ all_symbols → decoded o.body ≡ octets
+    (octets : Option (List ℕ)) → bytes_eq (without_blanks line) (end_line o.label) ≡ own
+    → list_all is_symbol (without_blanks line) ≡ all_symbols → decode o.body ≡ octets
     → Closes (line ∷ lines) done o all
 in_case line lines out in' n done o all e true symbols None own is none =
     absurd (err_ok _ _ all (not_decoded n line lines done o own none) e)
@@ -220,13 +222,13 @@ in_case line lines out in' n done o all e true symbols (Some octets) own is enco
       blocks = h.0;
       lines_are = refl;
       inside = tt;
-      encodes = ap decoded (append-nil o.body) ∙ encodes;
+      encodes = ap decode (append-nil o.body) ∙ encodes;
       ends = own;
       all_are = h.1 ∙ append_assoc done (block ∷ []) h.0;
       are_blocks = h.2;
     }
 in_case line lines out in' n done o all e false true octets own is encodes =
-    let next : Open = record o { body = o.body ++ trimmed line } in
+    let next : Open = record o { body = o.body ++ without_blanks line } in
     let h = in' (n + 1) done next all (sym (take_one n line lines done o is) ∙ e) in
     record {
       body = line ∷ h.body;
@@ -236,13 +238,13 @@ in_case line lines out in' n done o all e false true octets own is encodes =
       blocks = h.blocks;
       lines_are = ap (λ (ls : List (List ℕ)). line ∷ ls) h.lines_are;
       inside = (is, h.inside);
-      encodes = ap decoded (sym (append_assoc o.body (trimmed line) (base64_of h.body))) ∙ h.encodes;
+      encodes = ap decode (sym (append_assoc o.body (without_blanks line) (base64_of h.body))) ∙ h.encodes;
       ends = h.ends;
       all_are = h.all_are;
       are_blocks = h.are_blocks;
     }
 in_case line lines out in' n done o all e false false octets own is encodes =
-    let h = not_inside n line lines done o own is (is_end (trimmed line)) (is_begin (trimmed line)) refl refl in
+    let h = not_inside n line lines done o own is (is_end (without_blanks line)) (is_begin (without_blanks line)) refl refl in
     absurd (err_ok _ h.0 all h.1 e)
 
 claims : (lines : List (List ℕ)) → Out lines × In lines
@@ -253,10 +255,10 @@ claims [] = (
 )
 claims (line ∷ lines) =
     let h = claims lines in (
-      λ n done all e. out_case line lines h.0 h.1 n done all e (label_of (trimmed line)) refl,
+      λ n done all e. out_case line lines h.0 h.1 n done all e (label_of (without_blanks line)) refl,
       λ n done o all e. in_case line lines h.0 h.1 n done o all e
-          (bytes_eq (trimmed line) (end_line o.label)) (list_all is_symbol (trimmed line))
-          (decoded o.body) refl refl refl,
+          (bytes_eq (without_blanks line) (end_line o.label)) (list_all is_symbol (without_blanks line))
+          (decode o.body) refl refl refl,
     )
 
 pub are_blocks : (lines : List (List ℕ)) (blocks : List PemBlock)

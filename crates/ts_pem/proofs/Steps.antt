@@ -3,7 +3,7 @@ use Rattle.std.proofs.Common.{◌≡◌, ℕ, ◌+◌, List, [], ◌∷◌, refl
 use Rattle.std.specs.Prelude.{Result, Ok, Err}
 use Rattle.ts_pem.specs.declared.fault.PemFault.{PemFault}
 use Rattle.ts_pem.specs.declared.fault.PemFault.TheVariants.{NoEnd, OtherEnd, NotBase64, OutOfMemory}
-use Rattle.ts_pem.specs.Pem.{Reading, PemBlock, step, trimmed, blocks_from, at_end, and_then}
+use Rattle.ts_pem.specs.Pem.{Reading, PemBlock, step, without_blanks, blocks_from, at_end, and_then}
 use Rattle.ts_pem.specs.Files.{Gives}
 
 pub is_done : (n : ℕ) (r : Reading) → blocks_from n [] r ≡ at_end r.blocks r.open_block
@@ -22,7 +22,7 @@ Gives-fault view other OutOfMemory s t passes given = tt
 -- the reading of a whole text, at its next line
 at_line : (n : ℕ) (all : List (List ℕ)) (line cut : List ℕ) (rest : List (List ℕ)) (r : Reading)
     (whole : Result (List PemBlock) PemFault) → whole ≡ blocks_from n all r → all ≡ line ∷ rest
-    → cut ≡ trimmed line
+    → cut ≡ without_blanks line
     → whole ≡ and_then (step n cut r.blocks r.open_block) (blocks_from (n + 1) rest)
 unfolding blocks_from
 at_line n all line cut rest r whole same split trim =
@@ -37,7 +37,7 @@ after s t next is = ap (λ (u : Result Reading PemFault). and_then u next) is
 -- it goes on with the rest
 pub goes_on : (n : ℕ) (all : List (List ℕ)) (line cut : List ℕ) (rest : List (List ℕ))
     (r next : Reading) (whole : Result (List PemBlock) PemFault) → whole ≡ blocks_from n all r
-    → all ≡ line ∷ rest → cut ≡ trimmed line → step n cut r.blocks r.open_block ≡ Ok next
+    → all ≡ line ∷ rest → cut ≡ without_blanks line → step n cut r.blocks r.open_block ≡ Ok next
     → whole ≡ blocks_from (n + 1) rest next
 goes_on n all line cut rest r next whole same split trim is =
     at_line n all line cut rest r whole same split trim
@@ -47,7 +47,7 @@ goes_on n all line cut rest r next whole same split trim is =
 pub breaks_off : {X : Type 0} (n : ℕ) (all : List (List ℕ)) (line cut : List ℕ)
     (rest : List (List ℕ)) (r : Reading) (whole : Result (List PemBlock) PemFault)
     (fault : PemFault) (view : X → List PemBlock) → whole ≡ blocks_from n all r
-    → all ≡ line ∷ rest → cut ≡ trimmed line
+    → all ≡ line ∷ rest → cut ≡ without_blanks line
     → Gives (λ (x : Reading). x) (Err fault) (step n cut r.blocks r.open_block)
     → Gives view (Err fault) whole
 breaks_off n all line cut rest r whole fault view same split trim given =
@@ -59,7 +59,7 @@ breaks_off n all line cut rest r whole fault view same split trim given =
 -- after the last line the reading is at its end
 pub ends : (n : ℕ) (all : List (List ℕ)) (line cut : List ℕ) (r next : Reading)
     (whole : Result (List PemBlock) PemFault) → whole ≡ blocks_from n all r → all ≡ line ∷ []
-    → cut ≡ trimmed line → step n cut r.blocks r.open_block ≡ Ok next
+    → cut ≡ without_blanks line → step n cut r.blocks r.open_block ≡ Ok next
     → whole ≡ at_end next.blocks next.open_block
 ends n all line cut r next whole same split trim is =
     goes_on n all line cut [] r next whole same split trim is ∙ is_done (n + 1) next

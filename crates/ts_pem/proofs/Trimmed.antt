@@ -2,11 +2,11 @@
 use Rattle.std.proofs.Common.{◌≡◌, ℕ, true, false, List, [], ◌∷◌, ◌++◌, ◌≤◌, ◌-◌, ◌<◌, suc, length, get_or, take, refl, ap, ◌∙◌, sym, arith}
 use Rattle.std.proofs.Math.Seq.{take-suc}
 use Rattle.std.proofs.lemmas.List.{take_all}
-use Rattle.ts_pem.specs.Pem.{trimmed, in_front, is_blank}
+use Rattle.ts_pem.specs.Pem.{without_blanks, in_front, is_blank}
 
 -- a blank at the end does not count
-pub trimmed-blank : (xs : List ℕ) (x : ℕ) → is_blank x ≡ true → trimmed (xs ++ x ∷ []) ≡ trimmed xs
-unfolding trimmed
+pub trimmed-blank : (xs : List ℕ) (x : ℕ) → is_blank x ≡ true → without_blanks (xs ++ x ∷ []) ≡ without_blanks xs
+unfolding without_blanks
 trimmed-blank [] x blank = rw blank refl
 trimmed-blank (y ∷ ys) x blank = ap (λ (rest : List ℕ). in_front y rest) (trimmed-blank ys x blank)
 
@@ -17,8 +17,8 @@ in_front-more y (z ∷ zs) x = refl
 
 -- where the last octet is no blank nothing is taken away
 pub trimmed-other : (xs : List ℕ) (x : ℕ) → is_blank x ≡ false
-    → trimmed (xs ++ x ∷ []) ≡ xs ++ x ∷ []
-unfolding trimmed
+    → without_blanks (xs ++ x ∷ []) ≡ xs ++ x ∷ []
+unfolding without_blanks
 trimmed-other [] x other = rw other refl
 trimmed-other (y ∷ ys) x other =
     ap (λ (rest : List ℕ). in_front y rest) (trimmed-other ys x other) ∙ in_front-more y ys x
@@ -33,19 +33,19 @@ with_last xs some =
     ∙ ap (λ (n : ℕ). take n xs) (sym whole) ∙ take-suc xs (length xs - 1) 0 below
 
 pub trimmed_front : (xs : List ℕ) → 1 ≤ length xs → is_blank (get_or xs (length xs - 1) 0) ≡ true
-    → trimmed xs ≡ trimmed (take (length xs - 1) xs)
+    → without_blanks xs ≡ without_blanks (take (length xs - 1) xs)
 trimmed_front xs some blank =
-    ap trimmed (with_last xs some)
+    ap without_blanks (with_last xs some)
     ∙ trimmed-blank (take (length xs - 1) xs) (get_or xs (length xs - 1) 0) blank
 
 pub trimmed_whole : (xs : List ℕ) → 1 ≤ length xs → is_blank (get_or xs (length xs - 1) 0) ≡ false
-    → trimmed xs ≡ xs
+    → without_blanks xs ≡ xs
 trimmed_whole xs some other =
-    ap trimmed (with_last xs some)
+    ap without_blanks (with_last xs some)
     ∙ trimmed-other (take (length xs - 1) xs) (get_or xs (length xs - 1) 0) other
     ∙ sym (with_last xs some)
 
-pub trimmed_none : (xs : List ℕ) → length xs ≤ 0 → trimmed xs ≡ xs
-unfolding trimmed
+pub trimmed_none : (xs : List ℕ) → length xs ≤ 0 → without_blanks xs ≡ xs
+unfolding without_blanks
 trimmed_none [] none = refl
 trimmed_none (x ∷ xs) none = absurd (omega arith)

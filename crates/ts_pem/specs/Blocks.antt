@@ -2,19 +2,19 @@
 use Rattle.std.specs.Prelude.{◌≡◌, ℕ, true, List, [], ◌∷◌, ◌++◌, Some, None}
 use Rattle.std.specs.List.{list_all, flat_map, AllByRecursion}
 use Rattle.std.specs.Str.{bytes_eq}
-use Rattle.ts_pem.specs.Pem.{PemBlock, trimmed, label_of, end_line, is_symbol, decoded}
+use Rattle.ts_pem.specs.Pem.{PemBlock, without_blanks, label_of, end_line, is_symbol, decode}
 
 -- a line that begins no block which is read
 abbrev pub IsOutside : List ℕ → Type 0
-IsOutside line = label_of (trimmed line) ≡ None
+IsOutside line = label_of (without_blanks line) ≡ None
 
 -- a line of base64
 abbrev pub IsInside : List ℕ → Type 0
-IsInside line = list_all is_symbol (trimmed line) ≡ true
+IsInside line = list_all is_symbol (without_blanks line) ≡ true
 
 -- the base64 of lines together
 abbrev pub base64_of : List (List ℕ) → List ℕ
-base64_of lines = flat_map trimmed lines
+base64_of lines = flat_map without_blanks lines
 
 -- the first block of lines, and the lines after it
 pub record IsFirst (lines : List (List ℕ)) (block : PemBlock) (rest : List (List ℕ)) : Type 0 where
@@ -24,10 +24,10 @@ pub record IsFirst (lines : List (List ℕ)) (block : PemBlock) (rest : List (Li
   pub end : List ℕ
   pub lines_are : lines ≡ before ++ begin ∷ (body ++ end ∷ rest)
   pub outside : AllByRecursion IsOutside before
-  pub begins : label_of (trimmed begin) ≡ Some block.label
+  pub begins : label_of (without_blanks begin) ≡ Some block.label
   pub inside : AllByRecursion IsInside body
-  pub encodes : decoded (base64_of body) ≡ Some block.octets
-  pub ends : bytes_eq (trimmed end) (end_line block.label) ≡ true
+  pub encodes : decode (base64_of body) ≡ Some block.octets
+  pub ends : bytes_eq (without_blanks end) (end_line block.label) ≡ true
 
 -- these are all blocks of lines, in order
 abbrev pub AreBlocks : List (List ℕ) → List PemBlock → Type 0

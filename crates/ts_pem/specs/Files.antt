@@ -32,12 +32,13 @@ is_labelled Crl Crl = true
 abbrev pub labelled_of : Label → List PemBlock → List (List ℕ)
 labelled_of label blocks = map (λ b. b.octets) (filter (λ b. is_labelled label b.label) blocks)
 
-abbrev pub labelled : Label → Result (List PemBlock) PemFault → Result (List (List ℕ)) PemFault
-labelled label (Ok blocks) = Ok (labelled_of label blocks)
-labelled label (Err fault) = Err fault
+abbrev pub values_labelled : Label → Result (List PemBlock) PemFault → Result (List (List ℕ))
+    PemFault
+values_labelled label (Ok blocks) = Ok (labelled_of label blocks)
+values_labelled label (Err fault) = Err fault
 
 -- the values of a label that a file holds: of a text those of its blocks, and else the file as it
 -- is
 abbrev pub values_of : Label → List ℕ → Result (List (List ℕ)) PemFault
 values_of label octets =
-    if has_begin octets then labelled label (blocks_of octets) else Ok (octets ∷ [])
+    if has_begin octets then values_labelled label (blocks_of octets) else Ok (octets ∷ [])

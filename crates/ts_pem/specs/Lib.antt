@@ -1,4 +1,4 @@
 pub mod Pem
-pub mod Lines
 pub mod Files
 pub mod Blocks
+pub mod inside

@@ -31,9 +31,9 @@ in_front octet [] = if is_blank octet then [] else octet ∷ []
 in_front octet (other ∷ rest) = octet ∷ other ∷ rest
 
 -- a line without the blanks at its end, a carriage return among them
-unfoldable pub trimmed : List ℕ → List ℕ
-trimmed [] = []
-trimmed (octet ∷ rest) = in_front octet (trimmed rest)
+unfoldable pub without_blanks : List ℕ → List ℕ
+without_blanks [] = []
+without_blanks (octet ∷ rest) = in_front octet (without_blanks rest)
 
 -- ---- boundaries (RFC 7468 2)
 
@@ -68,8 +68,8 @@ is_symbol octet =
     || (nat_le 47 octet && nat_le octet 57) || (octet == 43) || (octet == 61)
 
 -- the octets of which a text is the base64, with padding, if there are some
-unfoldable pub decoded : List ℕ → Option (List ℕ)
-decoded text = decoded_of standard text
+unfoldable pub decode : List ℕ → Option (List ℕ)
+decode text = decoded_of standard text
 
 -- ---- blocks
 
@@ -94,9 +94,9 @@ abbrev pub at_start : Reading
 at_start = record { blocks = []; open_block = None }
 
 -- at the end of a block its lines have to be the base64 of some octets
-abbrev pub ended : ℕ → List PemBlock → Label → Option (List ℕ) → Result Reading PemFault
-ended n blocks label None = Err (NotBase64 n)
-ended n blocks label (Some octets) = Ok (record {
+abbrev pub end_block : ℕ → List PemBlock → Label → Option (List ℕ) → Result Reading PemFault
+end_block n blocks label None = Err (NotBase64 n)
+end_block n blocks label (Some octets) = Ok (record {
   blocks = blocks ++ record { label = label; octets = octets } ∷ [];
   open_block = None;
 })
@@ -104,7 +104,7 @@ ended n blocks label (Some octets) = Ok (record {
 -- line n within a block: its end, or the end of another, or the begin of another, or base64
 abbrev pub inside : ℕ → List PemBlock → Open → List ℕ → Result Reading PemFault
 inside n blocks o line =
-    if bytes_eq line (end_line o.label) then ended n blocks o.label (decoded o.body)
+    if bytes_eq line (end_line o.label) then end_block n blocks o.label (decode o.body)
     else if is_end line then Err (OtherEnd n)
     else if is_begin line then Err (NoEnd o.line)
     else if list_all is_symbol line then Ok (record {
@@ -139,7 +139,7 @@ and_then (Err fault) next = Err fault
 unfoldable pub blocks_from : ℕ → List (List ℕ) → Reading → Result (List PemBlock) PemFault
 blocks_from n [] r = at_end r.blocks r.open_block
 blocks_from n (line ∷ rest) r =
-    and_then (step n (trimmed line) r.blocks r.open_block) (blocks_from (n + 1) rest)
+    and_then (step n (without_blanks line) r.blocks r.open_block) (blocks_from (n + 1) rest)
 
 -- the blocks of a text in order, or the first fault; lines are counted from 1
 abbrev pub blocks_of : List ℕ → Result (List PemBlock) PemFault

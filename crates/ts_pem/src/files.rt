@@ -1,7 +1,8 @@
 //! Files that are DER or texts of blocks.
 
 ghost use Rattle.std.specs.Prelude.{◌≡◌, map, IfOk};
-ghost use Rattle.ts_pem.specs.Files.{Gives, block_in, has_begin, is_labelled, labelled_of, values_of};
+ghost use Rattle.ts_pem.specs.Files.{Gives, block_in, has_begin, is_labelled, labelled_of};
+ghost use Rattle.ts_pem.specs.Files.{values_of};
 ghost use Rattle.ts_pem.specs.declared.block.Label.TheVariants.{Certificate, Crl};
 
 use crate::block::{Block, Label};
@@ -38,7 +39,11 @@ fn is_labelled(label: Label, other: Label) -> bool
 }
 
 /// The octets of the blocks of a label.
-fn labelled(alloc: Global, label: Label, blocks: Vec<Block>) -> Result<Vec<Vec<u8>>, AllocError>
+fn blocks_labelled(
+    alloc: Global,
+    label: Label,
+    blocks: Vec<Block>,
+) -> Result<Vec<Vec<u8>>, AllocError>
     ensures { IfOk result (λ v. map (λ x. x.items) v.items ≡ labelled_of label
         (map block_in blocks.items)) }
 {
@@ -57,7 +62,7 @@ fn read_values(alloc: Global, label: Label, octets: &[u8]) -> Result<Vec<Vec<u8>
 {
     if is_pem(octets) {
         let blocks = read_blocks(alloc, octets)?;
-        return Ok(labelled(alloc, label, blocks)?);
+        return Ok(blocks_labelled(alloc, label, blocks)?);
     }
     let mut found = Vec::new(alloc);
     found.push(octets.to_vec(alloc)?).map_err(AllocError::from)?;

@@ -3,9 +3,10 @@
 ghost use Rattle.std.specs.Prelude.{◌≡◌, ◌<◌, ◌≤◌, ◌+◌, ◌∷◌, length, option_map};
 ghost use Rattle.std.specs.List.{list_all, position};
 ghost use Rattle.std.specs.Str.{bytes_eq};
-ghost use Rattle.ts_pem.specs.Pem.{lines, trimmed, is_blank, is_begin, is_end, is_symbol, label_of};
+ghost use Rattle.ts_pem.specs.Pem.{lines, without_blanks, is_blank, is_begin, is_end, is_symbol};
+ghost use Rattle.ts_pem.specs.Pem.{label_of};
 ghost use Rattle.ts_pem.specs.Pem.{end_line, is_line_feed};
-ghost use Rattle.ts_pem.specs.Lines.{rest_of, IsShorter};
+ghost use Rattle.ts_pem.specs.inside.Lines.{rest_of, IsShorter};
 
 use crate::block::Label;
 
@@ -44,7 +45,7 @@ fn is_blank(octet: u8) -> bool
 
 /// A line without the blanks at its end.
 pub(crate) fn trim(line: &[u8]) -> &[u8]
-    ensures { result.now ≡ trimmed line.now }
+    ensures { result.now ≡ without_blanks line.now }
 {
     let mut rest = line;
     while let [front @ .., last] = rest {

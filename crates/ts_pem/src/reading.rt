@@ -4,7 +4,7 @@ ghost use Rattle.std.specs.Prelude.{◌≡◌, List, IfOk, MatchResult, map, opt
 ghost use Rattle.ts_pem.specs.declared.fault.PemFault.TheVariants.{OutOfMemory};
 ghost use Rattle.ts_pem.specs.Blocks.{AreBlocks};
 ghost use Rattle.ts_pem.specs.Files.{Gives, block_in};
-ghost use Rattle.ts_pem.specs.Pem.{at_end, at_start, blocks_of, decoded, ended, inside, outside};
+ghost use Rattle.ts_pem.specs.Pem.{at_end, at_start, blocks_of, decode, end_block, inside, outside};
 ghost use Rattle.ts_pem.specs.Pem.{PemBlock, lines, step};
 
 use crate::block::{Block, Label};
@@ -53,7 +53,7 @@ impl Model for Reading {
 
 /// The octets of which a text is the base64, if there are some.
 fn decode(alloc: Global, text: &[u8]) -> Result<Option<Vec<u8>>, AllocError>
-    ensures { IfOk result (λ found. option_map (λ v. v.items) found ≡ decoded text.now) }
+    ensures { IfOk result (λ found. option_map (λ v. v.items) found ≡ decode text.now) }
 {
     match STANDARD.decode(alloc, text) {
         Ok(octets) => Ok(Some(octets)),
@@ -162,7 +162,7 @@ fn close(
     number: usize,
 ) -> Result<Reading, PemFault>
     ensures { Gives (λ r. r) result
-        (ended number (map block_in blocks.items) current.label (decoded current.body)) }
+        (end_block number (map block_in blocks.items) current.label (decode current.body)) }
 {
     let Some(octets) = decode(alloc, &current.body)? else {
         return Err(PemFault::NotBase64(number));

@@ -1,14 +1,17 @@
 -- Each call keeps what stands for the certificates, over plain lists.
-use Rattle.std.proofs.Common.{ne_eqb, ◌&&◌, not, ◌≡◌, ◌↔◌, ◌<◌, ◌≤◌, ◌-◌, ℕ, suc, Bool, true, false, cond, List, [], ◌∷◌, ◌++◌, map, filter, MatchBool, IsTrue, ◌||◌, refl, sym, ap, ◌∙◌, subst, inl, inr, ◌⊎◌, true≢false, append_assoc, length, take, get_or, take-suc, arith, ◌==◌, take_all, le_refl}
+use Rattle.std.proofs.Common.{ne_eqb, ◌&&◌, not, ◌≡◌, ◌↔◌, ◌<◌, ◌≤◌, ◌-◌, ℕ, suc, Bool, true, false}
+use Rattle.std.proofs.Common.{cond, List, [], ◌∷◌, ◌++◌, map, filter, MatchBool, IsTrue, ◌||◌, refl}
+use Rattle.std.proofs.Common.{sym, ap, ◌∙◌, subst, inl, inr, ◌⊎◌, true≢false, append_assoc, length}
+use Rattle.std.proofs.Common.{take, get_or, take-suc, arith, ◌==◌, take_all, le_refl}
 use Rattle.std.proofs.lemmas.Bool.{eqb-false}
 use Rattle.ts_policy.specs.Labels.{Label, any_policy, same, In, has, anys}
 use Rattle.ts_policy.specs.Paths.{CertPolicies, expected_after, expected, count, InS, InT, MapsNoAny}
-use Rattle.ts_policy.specs.Layers.{Layer, has_label, Holds, AreExpectations, IsNext, newest, is_over, chosen, firsts, tops, is_top, above_alive}
-use Rattle.std.specs.Borrow.{Bor}
+use Rattle.ts_policy.specs.inside.Layers.{Layer, has_label, HoldPaths, AreExpectations, IsNext, newest, is_over, chosen, firsts, tops, is_top, above_alive}
+use Rattle.ts_der.specs.declared.oid.OidRef.{OidRef}
 use Rattle.ts_policy.specs.declared.layer.Link.{Link}
-use Rattle.ts_policy.specs.Links.{AreMapped, link_in}
+use Rattle.ts_policy.specs.inside.Links.{AreMapped, link_in}
 use Rattle.ts_policy.specs.Certificates.{maps_any}
-use Rattle.ts_policy.specs.Kept.{Stand}
+use Rattle.ts_policy.specs.inside.Kept.{Stand}
 use Rattle.ts_policy.proofs.Same.{same-eq, same-ne}
 use Rattle.ts_policy.proofs.Views.{filter_alike, has_alike, map_map, map_filter}
 use Rattle.ts_policy.proofs.Lists.{if_true, if_false, passes, passer, decide, clash, In-append_left, In-append_right, In-append_cases, In-filter, In-from_filter, In-has, In-from_has, along}
@@ -33,7 +36,13 @@ stand_start pairs is = record {
   long = refl;
   expectations_are = λ _ p q. (
     λ h. elim (along (p, q) _ _ is h) [ inl e ↦ (ap (λ x. x.1) (sym e), inl (ap (λ x. x.1) (sym e) ∙ ap (λ x. x.0) e)) | inr f ↦ absurd f ],
-    λ h. elim h.1 [ inl e ↦ along (p, q) _ _ (sym is) (inl (let pair : Label → Label → Label × Label = λ a b. (a, b) in ap (λ a. pair a any_policy) (sym h.0 ∙ e) ∙ ap (pair p) (sym h.0))) | inr f ↦ absurd f ],
+    λ h. elim h.1 [
+      | inl e ↦
+          along (p, q) _ _ (sym is)
+          (inl (let pair : Label → Label → Label × Label = λ a b. (a, b) in
+          ap (λ a. pair a any_policy) (sym h.0 ∙ e) ∙ ap (pair p) (sym h.0)))
+      | inr f ↦ absurd f
+    ],
   );
   begun = λ e. absurd (true≢false e);
   any_from = λ _ q h. elim h [ inl e ↦ e | inr f ↦ absurd f ];
@@ -51,10 +60,12 @@ stand_taken cs ls ws ws' c l n s =
     }
 
 -- the layers after the mappings, which take the latest off and put the mapped one back
-pub stand_mapped : (cs : List CertPolicies) (c : CertPolicies) (l l' : Layer) (ls : List Layer) (ws ws' : Layer) → MapsNoAny c → AreMapped c l l' ws' → Stand (c ∷ cs) false (l ∷ ls) ws → Stand (c ∷ cs) true (l' ∷ ls) ws'
+pub stand_mapped : (cs : List CertPolicies) (c : CertPolicies) (l l' : Layer) (ls : List Layer)
+    (ws ws' : Layer) → MapsNoAny c → AreMapped c l l' ws' → Stand (c ∷ cs) false (l ∷ ls) ws
+    → Stand (c ∷ cs) true (l' ∷ ls) ws'
 stand_mapped cs c l l' ls ws ws' fine m s =
     let e = m.expectations in
-    let P : Layer → Type 0 = λ l. Holds (InS (c ∷ cs)) (l ∷ ls) in
+    let P : Layer → Type 0 = λ l. HoldPaths (InS (c ∷ cs)) (l ∷ ls) in
     let Q : Layer → Type 0 = λ ws. AreExpectations (expected_after c) (l' ∷ ls) ws in
     record {
       holds = subst P (sym m.layer) (mapped_holds c fine (count cs) (InT (c ∷ cs)) l ls (suc_inj s.long) s.holds);
@@ -72,7 +83,9 @@ firsts_alike : (ls : List Layer) (xs ys : List Label) → ((p : Label) → has x
 firsts_alike [] xs ys h = refl
 firsts_alike (l ∷ ls) xs ys h =
     let ups : List Label → List Label = λ xs. above_alive l xs in
-    let tops_alike : tops l xs ≡ tops l ys = ap (map (λ x. x.0)) (filter_alike (λ x. is_top xs x) (λ x. is_top ys x) (λ x. ap (λ b. b && (same x.1 any_policy && not (same x.0 any_policy))) (h x.0)) l) in
+    let tops_alike : tops l xs ≡ tops l ys =
+    ap (map (λ x. x.0)) (filter_alike (λ x. is_top xs x) (λ x. is_top ys x)
+    (λ x. ap (λ b. b && (same x.1 any_policy && not (same x.0 any_policy))) (h x.0)) l) in
     let ups_alike : ups xs ≡ ups ys = ap (map (λ x. x.1)) (filter_alike (λ x. has xs x.0) (λ x. has ys x.0) (λ x. h x.0) l) in
     ap (λ ts. ts ++ firsts ls (ups xs)) tops_alike ∙ ap (λ us. tops l ys ++ firsts ls us) ups_alike
 
@@ -85,11 +98,14 @@ firsts_turn f xs i x alive alive' more found all pos le is e a h =
     ∙ ap (λ m. found ++ (m ++ firsts (newest f [] (take (i - 1) xs)) alive')) e
     ∙ ap (λ zs. found ++ (tops (f x) alive ++ zs)) (firsts_alike (newest f [] (take (i - 1) xs)) alive' (above_alive (f x) alive) (has_alike alive' (above_alive (f x) alive) a))
     ∙ ap (λ zs. found ++ firsts zs alive) (sym (newest-push f [] (take (i - 1) xs) x))
-    ∙ ap (λ zs. found ++ firsts (newest f [] zs) alive) (ap (λ y. take (i - 1) xs ++ (y ∷ [])) is ∙ sym (take-suc xs (i - 1) x (let lt : i - 1 < length xs = omega arith in lt)) ∙ ap (λ n. take n xs) (let back : suc (i - 1) ≡ i = omega arith in back))
+    ∙ ap (λ zs. found ++ firsts (newest f [] zs) alive)
+    (ap (λ y. take (i - 1) xs ++ (y ∷ [])) is
+    ∙ sym (take-suc xs (i - 1) x (let lt : i - 1 < length xs = omega arith in lt))
+    ∙ ap (λ n. take n xs) (let back : suc (i - 1) ≡ i = omega arith in back))
     ∙ h
 
 -- no label is left exactly where there is no path
-pub over_is : (S : List Label → Type 0) (ls : List Layer) → Holds S ls → IsTrue (is_over ls) ↔ ((w : List Label) → S w → ⊥)
+pub over_is : (S : List Label → Type 0) (ls : List Layer) → HoldPaths S ls → IsTrue (is_over ls) ↔ ((w : List Label) → S w → ⊥)
 over_is S [] h = (λ e. absurd (true≢false (sym e)), λ none. absurd (none [] ((h.walks []).0 refl)))
 over_is S ([] ∷ ls) h = (λ _ w s. elim (true≢false (sym (ends ([] ∷ ls) w ((h.walks w).1 s)))) [ ], λ _. refl)
 over_is S ((x ∷ l) ∷ ls) h = (
@@ -103,7 +119,9 @@ chosen-is : (found : List Label) (free : Bool) (user : List Label) (p : Label) �
     In p (chosen found free user) ↔ MatchBool (is_none user || has user any_policy) (In p found ⊎ ((p ≡ any_policy) × IsTrue free)) (In p user × (IsTrue free ⊎ In p found))
 chosen-is found free user p =
     elim (is_none user || has user any_policy) as (λ b.
-    In p (cond b (cond free (found ++ (any_policy ∷ [])) found) (cond free user (filter (λ p. has found p) user))) ↔ MatchBool b (In p found ⊎ ((p ≡ any_policy) × IsTrue free)) (In p user × (IsTrue free ⊎ In p found))) [
+    In p (cond b (cond free (found ++ (any_policy ∷ [])) found)
+    (cond free user (filter (λ p. has found p) user))) ↔ MatchBool b
+    (In p found ⊎ ((p ≡ any_policy) × IsTrue free)) (In p user × (IsTrue free ⊎ In p found))) [
       | true ↦ elim free as (λ f. In p (cond f (found ++ (any_policy ∷ [])) found) ↔ (In p found ⊎ ((p ≡ any_policy) × IsTrue f))) [
         | true ↦ (
           λ i. elim (In-append_cases p found (any_policy ∷ []) i) [ inl a ↦ inl a | inr b ↦ elim b [ inl e ↦ inr (sym e, refl) | inr n ↦ absurd n ] ],
@@ -125,7 +143,9 @@ choice true A A' B B' f g = f
 choice false A A' B B' f g = g
 
 -- the accepted policies, by the layers
-pub accepted_is : (cs : List CertPolicies) (l : Layer) (ls : List Layer) (ws : Layer) (alive user : List Label) → Stand cs false (l ∷ ls) ws → ((p : Label) → has alive p ≡ has_label l p) → (p : Label) →
+pub accepted_is : (cs : List CertPolicies) (l : Layer) (ls : List Layer) (ws : Layer)
+    (alive user : List Label) → Stand cs false (l ∷ ls) ws
+    → ((p : Label) → has alive p ≡ has_label l p) → (p : Label) →
     In p (chosen (firsts (l ∷ ls) alive) (has_label l any_policy) user) ↔ IsAccepted (count cs) (InT cs) user p
 accepted_is cs l ls ws alive user s h p =
     let T : List Label → Type 0 = InT cs in
@@ -188,14 +208,18 @@ chosen_members now found es h free user xs a f is =
     ∙ sym (if_false (is_none us || has us any_policy) (cond free (found ++ (any_policy ∷ [])) found) _ a ∙ if_false free us _ f)
 
 -- steps of the way up, seen as labels
-pub tops_view : (alive : List Label) (xs : List Link) (ys : List (Bor Label)) → ys ≡ map (λ x. x.label) (filter (λ x. is_top alive (link_in x)) xs) → map (λ y. y.now) ys ≡ tops (map link_in xs) alive
+pub tops_view : (alive : List Label) (xs : List Link) (ys : List OidRef)
+    → ys ≡ map (λ x. x.label) (filter (λ x. is_top alive (link_in x)) xs)
+    → map (λ y. y.content.now) ys ≡ tops (map link_in xs) alive
 tops_view alive xs ys is =
     let first : Label × Label → Label = λ x. x.0 in
     let left = filter (λ x. is_top alive (link_in x)) xs in
-    ap (map (λ y. y.now)) is ∙ map_map (λ x. x.label) (λ y. y.now) left ∙ sym (map_map link_in first left) ∙ ap (map first) (map_filter link_in (λ x. is_top alive x) xs)
+    ap (map (λ y. y.content.now)) is ∙ map_map (λ x. x.label) (λ y. y.content.now) left ∙ sym (map_map link_in first left) ∙ ap (map first) (map_filter link_in (λ x. is_top alive x) xs)
 
-pub above_view : (alive : List Label) (xs : List Link) (ys : List (Bor Label)) → ys ≡ map (λ x. x.above) (filter (λ x. has alive x.label.now) xs) → map (λ y. y.now) ys ≡ above_alive (map link_in xs) alive
+pub above_view : (alive : List Label) (xs : List Link) (ys : List OidRef)
+    → ys ≡ map (λ x. x.above) (filter (λ x. has alive x.label.content.now) xs)
+    → map (λ y. y.content.now) ys ≡ above_alive (map link_in xs) alive
 above_view alive xs ys is =
     let second : Label × Label → Label = λ x. x.1 in
-    let left = filter (λ x. has alive x.label.now) xs in
-    ap (map (λ y. y.now)) is ∙ map_map (λ x. x.above) (λ y. y.now) left ∙ sym (map_map link_in second left) ∙ ap (map second) (map_filter link_in (λ x. has alive x.0) xs)
+    let left = filter (λ x. has alive x.label.content.now) xs in
+    ap (map (λ y. y.content.now)) is ∙ map_map (λ x. x.above) (λ y. y.content.now) left ∙ sym (map_map link_in second left) ∙ ap (map second) (map_filter link_in (λ x. has alive x.0) xs)

@@ -1,11 +1,17 @@
 -- The walks through the layers are the paths.
 use Rattle.std.proofs.Common.{◌≡◌, ◌≢◌, ◌↔◌, ℕ, Bool, true, false, not, ◌&&◌, ◌||◌, cond, nat_lt, List, [], ◌∷◌, ◌++◌, map, filter, refl, sym, ap, ◌∙◌, subst, inl, inr, ◌⊎◌, MatchBool}
 use Rattle.ts_policy.specs.Labels.{Label, Path, any_policy, same, In, has, anys}
-use Rattle.ts_policy.specs.Paths.{CertPolicies, stated, is_mapped, targets, end_of, expected_after, any_counts, MayFollow, Taken, Added, Mapped, MapsNoAny}
-use Rattle.ts_policy.specs.Accepted.{IsFirst, IsFirstOf}
-use Rattle.ts_policy.specs.Layers.{Layer, has_label, IsWalk, IsEnd, Leads, Grounded, fills, is_asked, wanted, unwanted, next_layer, new_links, mapped_layer, expectations_by, Holds, AreExpectations, tops, above_alive, firsts, depth}
+use Rattle.ts_policy.specs.Paths.{CertPolicies, policies_stated, is_mapped, targets, end_of, expected_after, any_counts, MayFollow, Taken, Added, Mapped, MapsNoAny}
+use Rattle.ts_policy.specs.Accepted.{IsFirstLabel, IsFirstOf}
+use Rattle.ts_policy.specs.inside.Layers.{Layer, has_label, IsWalk, IsEnd, Leads, Grounded, fills}
+use Rattle.ts_policy.specs.inside.Layers.{is_asked, wanted, unwanted, next_layer, new_links}
+use Rattle.ts_policy.specs.inside.Layers.{mapped_layer, expectations_by, HoldPaths, AreExpectations}
+use Rattle.ts_policy.specs.inside.Layers.{tops, above_alive, firsts, depth}
 use Rattle.ts_policy.proofs.Same.{same-eq, eq-from_same, same-ne}
-use Rattle.ts_policy.proofs.Lists.{In-append_left, In-append_right, In-append_cases, In-map, In-from_map, In-filter, In-from_filter, passes, passer, In-has, In-from_has, both, decide, clash, if_true, if_false, along, moved}
+use Rattle.ts_policy.proofs.Lists.{In-append_left, In-append_right, In-append_cases, In-map}
+use Rattle.ts_policy.proofs.Lists.{In-from_map, In-filter, In-from_filter, passes, passer, In-has}
+use Rattle.ts_policy.proofs.Lists.{In-from_has, both, decide, clash, if_true, if_false, along}
+use Rattle.ts_policy.proofs.Lists.{moved}
 use Rattle.ts_policy.proofs.TreeLaw.{expected-mapped, expected-other, is_mapped-from, is_mapped-to, anys-end}
 
 or_true : (a b : Bool) → b ≡ true → (a || b) ≡ true
@@ -42,8 +48,8 @@ walk_any (l ∷ ls) g (p ∷ w) h e =
     ap (λ q. q ∷ w) e ∙ ap (λ v. any_policy ∷ v) (walk_any ls g.1 w h.1 ((g.0 p (end_of w) h.0).1 e))
 
 module _ (c : CertPolicies) (expects : Label → List Label) (S : Path → Type 0) (ls : List Layer) (pairs : Layer) (ps : List Label)
-    (same_stated : (p : Label) → has ps p ≡ has (stated c) p)
-    (holds : Holds S ls) (are : AreExpectations expects ls pairs) (any_from : (q : Label) → In any_policy (expects q) → q ≡ any_policy) (any_to : In any_policy (expects any_policy)) where
+    (same_stated : (p : Label) → has ps p ≡ has (policies_stated c) p)
+    (holds : HoldPaths S ls) (are : AreExpectations expects ls pairs) (any_from : (q : Label) → In any_policy (expects q) → q ≡ any_policy) (any_to : In any_policy (expects any_policy)) where
   abbrev on : Bool
   on = fills c
 
@@ -53,11 +59,11 @@ module _ (c : CertPolicies) (expects : Label → List Label) (S : Path → Type 
   abbrev unasked : Label → Bool
   unasked p = not (same p any_policy) && not (has_label pairs p)
 
-  is_stated : (p : Label) → has ps p ≡ true → In p (stated c)
-  is_stated p h = In-from_has p (stated c) (sym (same_stated p) ∙ h)
+  is_stated : (p : Label) → has ps p ≡ true → In p (policies_stated c)
+  is_stated p h = In-from_has p (policies_stated c) (sym (same_stated p) ∙ h)
 
-  stated_is : (p : Label) → In p (stated c) → has ps p ≡ true
-  stated_is p i = same_stated p ∙ In-has p (stated c) i
+  stated_is : (p : Label) → In p (policies_stated c) → has ps p ≡ true
+  stated_is p i = same_stated p ∙ In-has p (policies_stated c) i
 
   -- why there is a link
   abbrev Link : Label → Label → Type 0
@@ -111,7 +117,7 @@ module _ (c : CertPolicies) (expects : Label → List Label) (S : Path → Type 
   follow-from w p s (inl a) =
       let e = (are p (end_of w)).0 a.0 in
       elim (decide on) [
-        | inl t ↦ let r = both (has (stated c) any_policy) (any_counts c) t in inr (inr (In-from_has any_policy _ r.0, r.1, e.1))
+        | inl t ↦ let r = both (has (policies_stated c) any_policy) (any_counts c) t in inr (inr (In-from_has any_policy _ r.0, r.1, e.1))
         | inr f ↦
             let r = both (not (same p any_policy)) (has ps p) (ap (λ b. b || (not (same p any_policy) && has ps p)) (sym f) ∙ a.1) in
             inl (is_stated p r.1, (λ e. clash (not (same p any_policy)) r.0 (ap not (same-eq p any_policy e))), e.1)
@@ -140,7 +146,7 @@ module _ (c : CertPolicies) (expects : Label → List Label) (S : Path → Type 
       inr (any_wanted top, In-from_has p ps (stated_is p b.0), ap (λ x. not x && not (has_label pairs p)) (same-ne p any_policy b.1) ∙ ap not none, b.2)
   link_of w p s (inr (inr d)) =
       let i = (are p (end_of w)).1 (ends ls w ((holds.walks w).1 s), d.2) in
-      let t : on ≡ true = ap (λ b. b && any_counts c) (In-has any_policy (stated c) d.0) ∙ d.1 in
+      let t : on ≡ true = ap (λ b. b && any_counts c) (In-has any_policy (policies_stated c) d.0) ∙ d.1 in
       inl (i, ap (λ b. b || (not (same p any_policy) && has ps p)) t)
 
   new_walks : (w : Path) → IsWalk (new ∷ ls) w ↔ Taken c expects S w
@@ -159,12 +165,12 @@ module _ (c : CertPolicies) (expects : Label → List Label) (S : Path → Type 
             (subst P (sym b.3) (wanted_any b.0), λ e. b.3)
       ]
 
-  pub next_holds : Holds (Taken c expects S) (new ∷ ls)
+  pub next_holds : HoldPaths (Taken c expects S) (new ∷ ls)
   next_holds = record { walks = new_walks; grounded = (new_leads, holds.grounded) }
 
 -- the mapping step
 
-module _ (c : CertPolicies) (fine : MapsNoAny c) (k : ℕ) (T : List Label → Type 0) (l : Layer) (ls : List Layer) (long : depth ls ≡ k) (holds : Holds T (l ∷ ls)) where
+module _ (c : CertPolicies) (fine : MapsNoAny c) (k : ℕ) (T : List Label → Type 0) (l : Layer) (ls : List Layer) (long : depth ls ≡ k) (holds : HoldPaths T (l ∷ ls)) where
   abbrev N : Layer
   N = new_links l c.mappings
 
@@ -183,7 +189,9 @@ module _ (c : CertPolicies) (fine : MapsNoAny c) (k : ℕ) (T : List Label → T
       elim (decide (has_label l any_policy)) [
         | inr f ↦ absurd (along (p, q) _ [] (if_false (has_label l any_policy) _ _ f) h)
         | inl t ↦
-            let r = In-from_map (λ m. let y : Label × Label = (m.0, any_policy) in y) (p, q) (filter (λ m. not (has_label l m.0)) c.mappings) (along (p, q) _ _ (if_true (has_label l any_policy) _ _ t) h) in
+            let r = In-from_map (λ m. let y : Label × Label = (m.0, any_policy) in y) (p, q)
+            (filter (λ m. not (has_label l m.0)) c.mappings)
+            (along (p, q) _ _ (if_true (has_label l any_policy) _ _ t) h) in
             let s = In-from_filter (λ m. not (has_label l m.0)) r.0 c.mappings r.1 in
             let e : r.0.0 ≡ p = ap (λ x. x.0) r.2 in
             let absent : has_label l p ≡ false = elim (decide (has_label l p)) [ inr f ↦ f | inl y ↦ absurd (clash (not (has_label l r.0.0)) s.1 (ap (λ x. not (has_label l x)) e ∙ ap not y)) ] in
@@ -251,9 +259,9 @@ module _ (c : CertPolicies) (fine : MapsNoAny c) (k : ℕ) (T : List Label → T
     λ h. let r = (holds.walks (p ∷ w)).1 h.0 in (In-filter (λ x. not (is_mapped c x.0)) (p, end_of w) l r.0 (ap not h.1), r.1),
   )
 
-  pub mapped_holds : Holds (Mapped c k T) (mapped_layer c l ∷ ls)
+  pub mapped_holds : HoldPaths (Mapped c k T) (mapped_layer c l ∷ ls)
   mapped_holds =
-      elim (nat_lt 0 c.policy_mapping) as (λ b. Holds (λ w. MatchBool b (Grown w) (Left w)) (cond b (l ++ N) kept ∷ ls)) [
+      elim (nat_lt 0 c.policy_mapping) as (λ b. HoldPaths (λ w. MatchBool b (Grown w) (Left w)) (cond b (l ++ N) kept ∷ ls)) [
         | true ↦ record { walks = grown_walks; grounded = (grown_leads, holds.grounded.1) }
         | false ↦ record { walks = left_walks; grounded = (λ p q h. holds.grounded.0 p q (In-from_filter (λ x. not (is_mapped c x.0)) (p, q) l h).0, holds.grounded.1) }
       ]
@@ -307,7 +315,7 @@ expectations_are c fine l ls es froms h m p q =
 -- the first labels
 
 abbrev HasFirst : List Layer → List Label → Label → Type 0
-HasFirst ls alive p = (w : List Label) × IsWalk ls w × In (end_of w) alive × IsFirst p w
+HasFirst ls alive p = (w : List Label) × IsWalk ls w × In (end_of w) alive × IsFirstLabel p w
 
 abbrev tests_top : List Label → Label × Label → Bool
 tests_top alive x = has alive x.0 && ((same x.1 any_policy) && not (same x.0 any_policy))
@@ -366,7 +374,9 @@ firsts_complete (l ∷ ls) alive p k (r ∷ v) (q ∷ w) apart h i e =
     In-append_right p (tops l alive) _ (firsts_complete ls (above_alive l alive) p k v w apart h.1 j (ap below e))
 
 -- what the layers say of the accepted policies
-pub firsts_are : (T : List Label → Type 0) (l : Layer) (ls : List Layer) → Holds T (l ∷ ls) → (alive : List Label) → ((p : Label) → has alive p ≡ has_label l p) → (p : Label) → In p (firsts (l ∷ ls) alive) ↔ IsFirstOf T p
+pub firsts_are : (T : List Label → Type 0) (l : Layer) (ls : List Layer) → HoldPaths T (l ∷ ls)
+    → (alive : List Label) → ((p : Label) → has alive p ≡ has_label l p) → (p : Label)
+    → In p (firsts (l ∷ ls) alive) ↔ IsFirstOf T p
 firsts_are T l ls holds alive h p = (
   λ i. let r = firsts_sound (l ∷ ls) holds.grounded alive p i in (r.0, (holds.walks r.0).0 r.1, r.3),
   λ i.
@@ -374,7 +384,7 @@ firsts_are T l ls holds alive h p = (
       firsts_complete (l ∷ ls) alive p i.2.1.1 i.2.1.0 i.0 i.2.0 w (In-from_has (end_of i.0) alive (h (end_of i.0) ∙ ends (l ∷ ls) i.0 w)) i.2.1.2,
 )
 
-pub free_is : (T : List Label → Type 0) (l : Layer) (ls : List Layer) → Holds T (l ∷ ls) → (has_label l any_policy ≡ true) ↔ T (anys (depth (l ∷ ls)))
+pub free_is : (T : List Label → Type 0) (l : Layer) (ls : List Layer) → HoldPaths T (l ∷ ls) → (has_label l any_policy ≡ true) ↔ T (anys (depth (l ∷ ls)))
 free_is T l ls holds = (
   λ h.
       let r = reach (l ∷ ls) holds.grounded any_policy h in

@@ -1,5 +1,7 @@
 -- Membership, through the functions on lists.
-use Rattle.std.proofs.Common.{◌≡◌, ℕ, zero, suc, Bool, true, false, ◌&&◌, ◌||◌, cond, List, [], ◌∷◌, ◌++◌, map, filter, flat_map, refl, sym, ap, ◌∙◌, subst, inl, inr, ◌⊎◌, true≢false, Contains, length, get_or, ◌<◌, arith}
+use Rattle.std.proofs.Common.{◌≡◌, ℕ, zero, suc, Bool, true, false, ◌&&◌, ◌||◌, cond, List, [], ◌∷◌}
+use Rattle.std.proofs.Common.{◌++◌, map, filter, flat_map, refl, sym, ap, ◌∙◌, subst, inl, inr, ◌⊎◌}
+use Rattle.std.proofs.Common.{true≢false, Contains, length, get_or, ◌<◌, arith}
 use Rattle.std.specs.List.{list_any}
 use Rattle.ts_policy.proofs.Same.{same-eq, eq-from_same}
 use Rattle.ts_policy.specs.Labels.{Label, same, In, has}

@@ -29,7 +29,10 @@ comes_if_less : (p q : Label) → slice_cmp nat_cmp p q ≡ Less → comes_befor
 comes_if_less p q e =
     sym (same_from_slice_cmp nat_cmp is_lt comes_before refl (λ _ _. refl) (λ _ _. refl) heads p q (slice_cmp nat_cmp p q) refl) ∙ ap is_lt e
   where
-    heads : (x y : ℕ) (xs ys : Label) (o : Ordering) → o ≡ nat_cmp x y → MatchOrdering o (comes_before (x ∷ xs) (y ∷ ys) ≡ true) (comes_before (x ∷ xs) (y ∷ ys) ≡ comes_before xs ys) (comes_before (x ∷ xs) (y ∷ ys) ≡ false)
+    heads : (x y : ℕ) (xs ys : Label) (o : Ordering) → o ≡ nat_cmp x y
+        → MatchOrdering o (comes_before (x ∷ xs) (y ∷ ys) ≡ true)
+        (comes_before (x ∷ xs) (y ∷ ys) ≡ comes_before xs ys)
+        (comes_before (x ∷ xs) (y ∷ ys) ≡ false)
     heads x y xs ys o h = grind (arith, nat_tests)
 
 less_reversed : (a b : Ordering) → a ≡ ordering_reverse b → b ≡ Less → is_lt a ≡ false

@@ -1,11 +1,22 @@
 -- The nodes of the tree at the depth of the last certificate are the paths.
-use Rattle.std.proofs.Common.{◌≡◌, ◌≢◌, ◌<◌, ◌≤◌, ◌↔◌, ℕ, zero, suc, Bool, true, false, not, ◌&&◌, ◌||◌, cond, nat_lt, List, [], ◌∷◌, ◌++◌, map, filter, flat_map, refl, sym, ap, ◌∙◌, subst, inl, inr, ◌⊎◌, IsTrue, true≢false, None, Some, lt_irrefl, le_refl, le_of_lt, arith, MatchBool, append_assoc, ◌+◌, ◌-◌, ltb-true, ltb-false}
+use Rattle.std.proofs.Common.{◌≡◌, ◌≢◌, ◌<◌, ◌≤◌, ◌↔◌, ℕ, zero, suc, Bool, true, false, not, ◌&&◌}
+use Rattle.std.proofs.Common.{◌||◌, cond, nat_lt, List, [], ◌∷◌, ◌++◌, map, filter, flat_map, refl}
+use Rattle.std.proofs.Common.{sym, ap, ◌∙◌, subst, inl, inr, ◌⊎◌, IsTrue, true≢false, None, Some}
+use Rattle.std.proofs.Common.{lt_irrefl, le_refl, le_of_lt, arith, MatchBool, append_assoc, ◌+◌}
+use Rattle.std.proofs.Common.{◌-◌, ltb-true, ltb-false}
 use Rattle.std.specs.List.{list_any}
 use Rattle.ts_policy.specs.Labels.{Label, any_policy, same, In, has, anys}
-use Rattle.ts_policy.specs.Paths.{CertPolicies, stated, is_mapped, targets, end_of, expected_after, expected, any_counts, MayFollow, Taken, Added, Mapped, count, InS, InT, MapsNoAny, NoneMapsAny}
-use Rattle.ts_policy.specs.Tree.{Node, label, root, child, is_long, nodes_at, same_name, is_child_of, placed, missing, pruned, placed_all, filled, grown, taken, retargeted, added, mapped, tree_S, tree_T, names_at}
+use Rattle.ts_policy.specs.Paths.{CertPolicies, policies_stated, is_mapped, targets, end_of}
+use Rattle.ts_policy.specs.Paths.{expected_after, expected, any_counts, MayFollow, Taken, Added}
+use Rattle.ts_policy.specs.Paths.{Mapped, count, InS, InT, MapsNoAny, NoneMapsAny}
+use Rattle.ts_policy.specs.Tree.{Node, label, root, child, is_long, nodes_at, same_name}
+use Rattle.ts_policy.specs.Tree.{is_child_of, placed, missing, pruned, placed_all, filled, grown}
+use Rattle.ts_policy.specs.Tree.{taken, retargeted, added, mapped, tree_S, tree_T, names_at}
 use Rattle.ts_policy.proofs.Same.{same-eq, eq-from_same, same-ne, ne-from_same}
-use Rattle.ts_policy.proofs.Lists.{In-append_left, In-append_right, In-append_cases, In-map, In-from_map, In-filter, In-from_filter, In-flat_map, In-from_flat_map, passes, passer, In-has, In-from_has, both, decide, clash, if_true, if_false, along, moved}
+use Rattle.ts_policy.proofs.Lists.{In-append_left, In-append_right, In-append_cases, In-map}
+use Rattle.ts_policy.proofs.Lists.{In-from_map, In-filter, In-from_filter, In-flat_map}
+use Rattle.ts_policy.proofs.Lists.{In-from_flat_map, passes, passer, In-has, In-from_has, both}
+use Rattle.ts_policy.proofs.Lists.{decide, clash, if_true, if_false, along, moved}
 
 -- names
 
@@ -88,14 +99,14 @@ pub record Upper (k : ℕ) (tree : List Node) : Type 0 where
 -- why the node m of the layer above has a child p
 abbrev Why : CertPolicies → List Node → Node → Label → Type 0
 Why c above m p =
-    (In p (stated c) × (p ≢ any_policy) × In p m.expected)
-    ⊎ ((In p (stated c) × (p ≢ any_policy) × (label m ≡ any_policy) × (list_any (λ n. has n.expected p) above ≡ false))
-    ⊎ (In any_policy (stated c) × IsTrue (any_counts c) × In p m.expected))
+    (In p (policies_stated c) × (p ≢ any_policy) × In p m.expected)
+    ⊎ ((In p (policies_stated c) × (p ≢ any_policy) × (label m ≡ any_policy) × (list_any (λ n. has n.expected p) above ≡ false))
+    ⊎ (In any_policy (policies_stated c) × IsTrue (any_counts c) × In p m.expected))
 
 abbrev GrownFrom : CertPolicies → List Node → Node → Type 0
 GrownFrom c above n = (p : Label) × (m : Node) × In m above × (child p m ≡ n) × Why c above m p
 
-placed-from : (c : CertPolicies) (above : List Node) (n : Node) (p : Label) → In p (stated c) → In n (placed above p) → GrownFrom c above n
+placed-from : (c : CertPolicies) (above : List Node) (n : Node) (p : Label) → In p (policies_stated c) → In n (placed above p) → GrownFrom c above n
 placed-from c above n p st h =
     elim (decide (same p any_policy)) [
       | inl t ↦ absurd (along n _ [] (if_true (same p any_policy) _ _ t) h)
@@ -117,16 +128,16 @@ placed-from c above n p st h =
 grown-from : (c : CertPolicies) (above : List Node) (n : Node) → In n (grown c above) → GrownFrom c above n
 grown-from c above n h =
     elim (In-append_cases n (placed_all c above) (filled c above (placed_all c above)) h) [
-      | inl a ↦ let r = In-from_flat_map (placed above) n (stated c) a in placed-from c above n r.0 r.1 r.2
-      | inr b ↦ elim (decide (has (stated c) any_policy && any_counts c)) [
+      | inl a ↦ let r = In-from_flat_map (placed above) n (policies_stated c) a in placed-from c above n r.0 r.1 r.2
+      | inr b ↦ elim (decide (has (policies_stated c) any_policy && any_counts c)) [
         | inl t ↦
-            let tests = both (has (stated c) any_policy) (any_counts c) t in
+            let tests = both (has (policies_stated c) any_policy) (any_counts c) t in
             let children = placed_all c above in
-            let r = In-from_flat_map (missing children) n above (along n _ _ (if_true (has (stated c) any_policy && any_counts c) _ _ t) b) in
+            let r = In-from_flat_map (missing children) n above (along n _ _ (if_true (has (policies_stated c) any_policy && any_counts c) _ _ t) b) in
             let q = In-from_map (λ p. child p r.0) n _ r.2 in
             let s = In-from_filter (λ p. not (list_any (λ m. same_name (p ∷ r.0.name) m.name) children)) q.0 r.0.expected q.1 in
-            (q.0, r.0, r.1, q.2, inr (inr (In-from_has any_policy (stated c) tests.0, tests.1, s.0)))
-        | inr f ↦ absurd (along n _ [] (if_false (has (stated c) any_policy && any_counts c) _ _ f) b)
+            (q.0, r.0, r.1, q.2, inr (inr (In-from_has any_policy (policies_stated c) tests.0, tests.1, s.0)))
+        | inr f ↦ absurd (along n _ [] (if_false (has (policies_stated c) any_policy && any_counts c) _ _ f) b)
       ]
     ]
 
@@ -134,14 +145,17 @@ grown-from c above n h =
 grown-to : (c : CertPolicies) (above : List Node) (m : Node) (p : Label) → In m above → Why c above m p → (n : Node) × In n (grown c above) × (n.name ≡ p ∷ m.name)
 grown-to c above m p i (inl a) =
     let e1 = if_false (same p any_policy) [] _ (same-ne p any_policy a.1) in
-    let e2 = if_true (list_any (λ n. has n.expected p) above) (map (child p) (filter (λ n. has n.expected p) above)) (map (child p) (filter (λ n. same (label n) any_policy) above)) (passes (λ n. has n.expected p) m above i (In-has p m.expected a.2)) in
+    let e2 = if_true (list_any (λ n. has n.expected p) above)
+    (map (child p) (filter (λ n. has n.expected p) above))
+    (map (child p) (filter (λ n. same (label n) any_policy) above))
+    (passes (λ n. has n.expected p) m above i (In-has p m.expected a.2)) in
     let x = In-map (child p) m _ (In-filter (λ n. has n.expected p) m above i (In-has p m.expected a.2)) in
-    (child p m, In-append_left _ (placed_all c above) _ (In-flat_map (placed above) p _ (stated c) a.0 (along _ _ _ (sym (e1 ∙ e2)) x)), refl)
+    (child p m, In-append_left _ (placed_all c above) _ (In-flat_map (placed above) p _ (policies_stated c) a.0 (along _ _ _ (sym (e1 ∙ e2)) x)), refl)
 grown-to c above m p i (inr (inl b)) =
     let e1 = if_false (same p any_policy) [] _ (same-ne p any_policy b.1) in
     let e2 = if_false (list_any (λ n. has n.expected p) above) (map (child p) (filter (λ n. has n.expected p) above)) (map (child p) (filter (λ n. same (label n) any_policy) above)) b.3 in
     let x = In-map (child p) m _ (In-filter (λ n. same (label n) any_policy) m above i (same-eq _ _ b.2)) in
-    (child p m, In-append_left _ (placed_all c above) _ (In-flat_map (placed above) p _ (stated c) b.0 (along _ _ _ (sym (e1 ∙ e2)) x)), refl)
+    (child p m, In-append_left _ (placed_all c above) _ (In-flat_map (placed above) p _ (policies_stated c) b.0 (along _ _ _ (sym (e1 ∙ e2)) x)), refl)
 grown-to c above m p i (inr (inr d)) =
     let children = placed_all c above in
     elim (decide (list_any (λ x. same_name (p ∷ m.name) x.name) children)) [
@@ -150,15 +164,15 @@ grown-to c above m p i (inr (inr d)) =
           (r.0, In-append_left _ children _ r.1, sym (same_name-eq (p ∷ m.name) r.0.name r.2))
       | inr f ↦
           let x = In-map (λ p. child p m) p _ (In-filter (λ p. not (list_any (λ x. same_name (p ∷ m.name) x.name) children)) p m.expected d.2 (ap not f)) in
-          let on : (has (stated c) any_policy && any_counts c) ≡ true = ap (λ b. b && any_counts c) (In-has any_policy (stated c) d.0) ∙ d.1 in
+          let on : (has (policies_stated c) any_policy && any_counts c) ≡ true = ap (λ b. b && any_counts c) (In-has any_policy (policies_stated c) d.0) ∙ d.1 in
           let y = In-flat_map (missing children) m _ above i x in
-          (child p m, In-append_right _ children _ (along _ _ _ (sym (if_true (has (stated c) any_policy && any_counts c) _ _ on)) y), refl)
+          (child p m, In-append_right _ children _ (along _ _ _ (sym (if_true (has (policies_stated c) any_policy && any_counts c) _ _ on)) y), refl)
     ]
 
 -- 6.1.3 (d)
 
 taken_cases : (c : CertPolicies) (k : ℕ) (tree : List Node) →
-    ((taken c k tree ≡ []) × (stated c ≡ [])) ⊎ (taken c k tree ≡ pruned (suc k) (tree ++ grown c (nodes_at k tree)))
+    ((taken c k tree ≡ []) × (policies_stated c ≡ [])) ⊎ (taken c k tree ≡ pruned (suc k) (tree ++ grown c (nodes_at k tree)))
 taken_cases c k tree =
     elim c.policies as (λ o.
     ((elim o as (λ _. List Node) [ None ↦ [] | Some ps ↦ pruned (suc k) (tree ++ grown c (nodes_at k tree)) ] ≡ []) × (elim o as (λ _. List Label) [ None ↦ [] | Some ps ↦ ps ] ≡ []))
@@ -291,7 +305,7 @@ module _ (c : CertPolicies) (k : ℕ) (S : List Label → Type 0) (expects : Lab
         stands.only_any n.name (stands.sound n i l).0 e;
   }
 
-  none_taken : stated c ≡ [] → (w : List Label) → Tk w → ⊥
+  none_taken : policies_stated c ≡ [] → (w : List Label) → Tk w → ⊥
   none_taken e [] h = h
   none_taken e (p ∷ w) h =
       elim h.1 [
@@ -384,13 +398,22 @@ module _ (c : CertPolicies) (fine : MapsNoAny c) where
 
     retargeted-name : (n : Node) → (retargeted c (suc k) n).name ≡ n.name
     retargeted-name n =
-        elim (is_long (suc k) n.name && is_mapped c (label n)) as (λ b. (cond b (let m : Node = record { name = n.name; expected = targets c (label n) } in m) n).name ≡ n.name) [ true ↦ refl | false ↦ refl ]
+        elim (is_long (suc k) n.name
+        && is_mapped c (label n)) as (λ b.
+        (cond b (let m : Node = record { name = n.name; expected = targets c (label n) } in m)
+        n).name ≡ n.name) [ true ↦ refl | false ↦ refl ]
 
     retargeted-expected : (n : Node) → is_long (suc k) n.name ≡ true → n.expected ≡ label n ∷ [] → (retargeted c (suc k) n).expected ≡ expected_after c (label n)
     retargeted-expected n l e =
         elim (decide (is_mapped c (label n))) [
-          | inl t ↦ ap (λ x. x.expected) (if_true (is_long (suc k) n.name && is_mapped c (label n)) (let m : Node = record { name = n.name; expected = targets c (label n) } in m) n (ap (λ b. b && is_mapped c (label n)) l ∙ t)) ∙ sym (expected-mapped (label n) t)
-          | inr f ↦ ap (λ x. x.expected) (if_false (is_long (suc k) n.name && is_mapped c (label n)) (let m : Node = record { name = n.name; expected = targets c (label n) } in m) n (ap (λ b. b && is_mapped c (label n)) l ∙ f)) ∙ e ∙ sym (expected-other (label n) f)
+          | inl t ↦ ap (λ x. x.expected)
+              (if_true (is_long (suc k) n.name && is_mapped c (label n))
+              (let m : Node = record { name = n.name; expected = targets c (label n) } in m) n
+              (ap (λ b. b && is_mapped c (label n)) l ∙ t)) ∙ sym (expected-mapped (label n) t)
+          | inr f ↦ ap (λ x. x.expected)
+              (if_false (is_long (suc k) n.name && is_mapped c (label n))
+              (let m : Node = record { name = n.name; expected = targets c (label n) } in m) n
+              (ap (λ b. b && is_mapped c (label n)) l ∙ f)) ∙ e ∙ sym (expected-other (label n) f)
         ]
 
     abbrev beside : Label → Node → Node
@@ -483,8 +506,15 @@ module _ (c : CertPolicies) (fine : MapsNoAny c) where
         let up_any : label up.1 ≡ any_policy = ap end_of (up_name ∙ h.0) ∙ anys-end k in
         let i = In-filter (λ n. same (label n) any_policy) up.1 (nodes_at k tree) (In-filter (λ n. is_long k n.name) up.1 tree up.2 up.3) (same-eq (label up.1) any_policy up_any) in
         let j = In-map (beside m.0.0) up.1 (filter (λ n. same (label n) any_policy) (nodes_at k tree)) i in
-        let in_added : In (beside m.0.0 up.1) (added c k tree m.0.0) = along _ _ _ (sym (if_false (list_any (λ n. same (label n) m.0.0) here) [] _ none ∙ if_true (list_any (λ n. same (label n) any_policy) here) _ [] one)) j in
-        (beside m.0.0 up.1, In-append_right _ (map (retargeted c (suc k)) tree) _ (In-flat_map (λ m. added c k tree m.0) m.0 _ c.mappings m.1 in_added), ap (λ x. x ∷ up.1.name) m.2 ∙ ap (λ v. p ∷ v) up_name)
+        let in_added : In (beside m.0.0 up.1) (added c k tree m.0.0) =
+        along _ _ _ (sym (if_false (list_any (λ n. same (label n) m.0.0) here) [] _ none
+        ∙ if_true (list_any (λ n. same (label n) any_policy) here) _ [] one)) j in (
+          beside m.0.0 up.1,
+          In-append_right _ (map (retargeted c (suc k)) tree) _
+              (In-flat_map (λ m. added c k tree m.0) m.0 _ c.mappings m.1 in_added),
+          ap
+              (λ x. x ∷ up.1.name) m.2 ∙ ap (λ v. p ∷ v) up_name,
+        )
 
     grows_long : (w : List Label) → M w → is_long (suc k) w ≡ true
     grows_long w (inl t) = stands.long w t
@@ -670,7 +700,9 @@ module _ (c : CertPolicies) (fine : MapsNoAny c) (k : ℕ) (T : List Label → T
 
   mapped_on : OnPaths (Mapped c k T) (mapped c k tree)
   mapped_on =
-      elim (nat_lt 0 c.policy_mapping) as (λ b. OnPaths (λ w. MatchBool b (M c fine k T tree stands upper w) (N c fine k T tree stands upper w)) (cond b (grows c fine k T tree stands upper) (shrinks c fine k T tree stands upper))) [
+      elim (nat_lt 0 c.policy_mapping) as (λ b. OnPaths
+      (λ w. MatchBool b (M c fine k T tree stands upper w) (N c fine k T tree stands upper w))
+      (cond b (grows c fine k T tree stands upper) (shrinks c fine k T tree stands upper))) [
         | true ↦ grows_on
         | false ↦ pruned_on_paths k (N c fine k T tree stands upper) (expected_after c) _ (shrinks_stands c fine k T tree stands upper)
       ]

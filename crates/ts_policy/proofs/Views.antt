@@ -2,13 +2,13 @@
 use Rattle.std.proofs.Common.{◌≡◌, ◌↔◌, Bool, true, false, not, ◌||◌, cond, List, [], ◌∷◌, ◌++◌, map, filter, refl, sym, ap, ◌∙◌, inl, inr, length, ◌==◌, ne_eqb, arith}
 use Rattle.std.specs.List.{list_any}
 use Rattle.ts_policy.specs.Labels.{Label, same, In, has}
-use Rattle.std.specs.Borrow.{Bor}
+use Rattle.ts_der.specs.declared.oid.OidRef.{OidRef}
 use Rattle.ts_policy.specs.declared.certificate.Mapping.{Mapping}
 use Rattle.ts_policy.specs.declared.layer.Link.{Link}
 use Rattle.ts_policy.specs.Accepted.{is_none}
 use Rattle.ts_policy.specs.Certificates.{mapping_in}
-use Rattle.ts_policy.specs.Layers.{expectations_by}
-use Rattle.ts_policy.specs.Links.{link_in, link}
+use Rattle.ts_policy.specs.inside.Layers.{expectations_by}
+use Rattle.ts_policy.specs.inside.Links.{link_in, link}
 use Rattle.ts_policy.proofs.Lists.{In-has, In-from_has, decide, clash}
 
 -- a view of what a map makes
@@ -51,27 +51,27 @@ pub has_firsts : (xs : List (Label × Label)) (p : Label) → has (map (λ x. x.
 has_firsts xs p = sym (any_of_view (λ x. x.0) (λ q. same q p) xs)
 
 -- what a layer's labels expect, seen as labels
-pub expectations_view : (es : List Label) (ss : List (Bor Label)) → map (λ x. x.now) ss ≡ es → (ms : List Mapping) (froms : List Label) (xs ys : List Link)
-    → xs ≡ map (λ m. link m.subject_domain m.issuer_domain) (filter (λ m. has es m.issuer_domain.now) ms)
-    → ys ≡ map (λ p. link p p) (filter (λ p. not (has froms p.now)) ss)
+pub expectations_view : (es : List Label) (ss : List OidRef) → map (λ x. x.content.now) ss ≡ es → (ms : List Mapping) (froms : List Label) (xs ys : List Link)
+    → xs ≡ map (λ m. link m.subject_domain m.issuer_domain) (filter (λ m. has es m.issuer_domain.content.now) ms)
+    → ys ≡ map (λ p. link p p) (filter (λ p. not (has froms p.content.now)) ss)
     → map link_in (xs ++ ys) ≡ expectations_by es (map mapping_in ms) froms
 expectations_view es ss s ms froms xs ys ex ey =
     let turn : Label × Label → Label × Label = λ m. (m.1, m.0) in
     let both : Label → Label × Label = λ p. (p, p) in
     let first : map link_in xs ≡ map turn (filter (λ m. has es m.0) (map mapping_in ms)) =
-    ap (map link_in) ex ∙ map_map (λ m. link m.subject_domain m.issuer_domain) link_in (filter (λ m. has es m.issuer_domain.now) ms)
-    ∙ sym (map_map mapping_in turn (filter (λ m. has es m.issuer_domain.now) ms)) ∙ ap (map turn) (map_filter mapping_in (λ m. has es m.0) ms) in
+    ap (map link_in) ex ∙ map_map (λ m. link m.subject_domain m.issuer_domain) link_in (filter (λ m. has es m.issuer_domain.content.now) ms)
+    ∙ sym (map_map mapping_in turn (filter (λ m. has es m.issuer_domain.content.now) ms)) ∙ ap (map turn) (map_filter mapping_in (λ m. has es m.0) ms) in
     let second : map link_in ys ≡ map both (filter (λ p. not (has froms p)) es) =
-    ap (map link_in) ey ∙ map_map (λ p. link p p) link_in (filter (λ p. not (has froms p.now)) ss)
-    ∙ sym (map_map (λ p. p.now) both (filter (λ p. not (has froms p.now)) ss)) ∙ ap (map both) (map_filter (λ p. p.now) (λ p. not (has froms p)) ss)
+    ap (map link_in) ey ∙ map_map (λ p. link p p) link_in (filter (λ p. not (has froms p.content.now)) ss)
+    ∙ sym (map_map (λ p. p.content.now) both (filter (λ p. not (has froms p.content.now)) ss)) ∙ ap (map both) (map_filter (λ p. p.content.now) (λ p. not (has froms p)) ss)
     ∙ ap (λ es. map both (filter (λ p. not (has froms p)) es)) s in
     map_append link_in xs ys ∙ ap (λ l. l ++ map link_in ys) first ∙ ap (λ l. map turn (filter (λ m. has es m.0) (map mapping_in ms)) ++ l) second
 
 -- links to one label above
-pub beside_view : (a : Bor Label) (q : Label) → a.now ≡ q → (ss : List (Bor Label)) → map link_in (map (λ p. link p a) ss) ≡ map (λ p. (p, q)) (map (λ p. p.now) ss)
+pub beside_view : (a : OidRef) (q : Label) → a.content.now ≡ q → (ss : List OidRef) → map link_in (map (λ p. link p a) ss) ≡ map (λ p. (p, q)) (map (λ p. p.content.now) ss)
 beside_view a q e ss =
     let with : Label → Label → Label × Label = λ q p. (p, q) in
-    map_map (λ p. link p a) link_in ss ∙ sym (map_map (λ p. p.now) (with a.now) ss) ∙ ap (λ q. map (with q) (map (λ p. p.now) ss)) e
+    map_map (λ p. link p a) link_in ss ∙ sym (map_map (λ p. p.content.now) (with a.content.now) ss) ∙ ap (λ q. map (with q) (map (λ p. p.content.now) ss)) e
 
 pub is_none-view : {X : Type 0} (f : X → Label) (xs : List X) → (length xs == 0) ≡ is_none (map f xs)
 is_none-view f [] = refl

@@ -4,12 +4,12 @@ use Rattle.std.specs.Prelude.{◌∷◌, ◌++◌, MatchBool, ◌⊎◌}
 use Rattle.ts_policy.specs.Labels.{Label, Path, any_policy, In, has, anys}
 
 -- p is the first label of the path, from the trust anchor, that is not anyPolicy
-abbrev pub IsFirst : Label → Path → Type 0
-IsFirst p w = (p ≢ any_policy) × ((v : Path) × (k : ℕ) × (w ≡ v ++ (p ∷ anys k)))
+abbrev pub IsFirstLabel : Label → Path → Type 0
+IsFirstLabel p w = (p ≢ any_policy) × ((v : Path) × (k : ℕ) × (w ≡ v ++ (p ∷ anys k)))
 
 -- some path of T has p as its first such label
 abbrev pub IsFirstOf : (Path → Type 0) → Label → Type 0
-IsFirstOf T p = (w : Path) × T w × IsFirst p w
+IsFirstOf T p = (w : Path) × T w × IsFirstLabel p w
 
 -- the list is empty
 abbrev pub is_none : List Label → Bool

@@ -9,12 +9,12 @@ use Rattle.ts_policy.specs.Paths.{CertPolicies}
 
 -- issuerDomainPolicy and subjectDomainPolicy
 abbrev pub mapping_in : Mapping → Label × Label
-mapping_in m = (m.issuer_domain.now, m.subject_domain.now)
+mapping_in m = (m.issuer_domain.content.now, m.subject_domain.content.now)
 
 -- what the certificate states of policies
 abbrev pub policies_in : Certificate → CertPolicies
 policies_in c = record {
-  policies = option_map (λ v. map (λ p. p.now) v.items) c.policies;
+  policies = option_map (λ v. map (λ p. p.content.now) v.items) c.policies;
   mappings = map mapping_in c.mappings.items;
   self_issued = c.self_issued;
   is_last = c.is_last;
@@ -24,8 +24,8 @@ policies_in c = record {
 
 -- a mapping names anyPolicy
 abbrev pub maps_any_of : List Mapping → Bool
-maps_any_of ms = list_any (λ m. same m.issuer_domain.now any_policy
-    || same m.subject_domain.now any_policy) ms
+maps_any_of ms = list_any (λ m. same m.issuer_domain.content.now any_policy
+    || same m.subject_domain.content.now any_policy) ms
 
 -- the same for the pairs
 abbrev pub maps_any : CertPolicies → Bool

@@ -5,7 +5,4 @@ pub mod Seen
 pub mod Tree
 pub mod Certificates
 pub mod Stated
-pub mod LabelSet
-pub mod Layers
-pub mod Links
-pub mod Kept
+pub mod inside

@@ -20,8 +20,8 @@ pub record CertPolicies : Type 0 where
   pub policy_mapping : ℕ
 
 -- the policies that a certificate states
-abbrev pub stated : CertPolicies → List Label
-stated c = elim c.policies [ None ↦ [] | Some ps ↦ ps ]
+abbrev pub policies_stated : CertPolicies → List Label
+policies_stated c = elim c.policies [ None ↦ [] | Some ps ↦ ps ]
 
 -- the certificate maps p
 abbrev pub is_mapped : CertPolicies → Label → Bool
@@ -55,13 +55,13 @@ any_counts c = nat_lt 0 c.inhibit_any_policy || (not c.is_last && c.self_issued)
 abbrev pub MayFollow : CertPolicies → (Label → List Label) → (Path → Type 0) → Path → Label → Type 0
 MayFollow c expects S w p =
     -- (d)(1)(i): p is stated, is not anyPolicy, and w expects it
-    (In p (stated c) × (p ≢ any_policy) × In p (expects (end_of w)))
+    (In p (policies_stated c) × (p ≢ any_policy) × In p (expects (end_of w)))
     -- (d)(1)(ii): p is stated, is not anyPolicy, w ends in anyPolicy, and no path of S(i-1) expects
     -- p
-    ⊎ ((In p (stated c) × (p ≢ any_policy) × (end_of w ≡ any_policy)
+    ⊎ ((In p (policies_stated c) × (p ≢ any_policy) × (end_of w ≡ any_policy)
     × ((v : Path) → S v → In p (expects (end_of v)) → ⊥))
     -- (d)(2): anyPolicy is stated and counts, and w expects p
-    ⊎ (In any_policy (stated c) × IsTrue (any_counts c) × In p (expects (end_of w))))
+    ⊎ (In any_policy (policies_stated c) × IsTrue (any_counts c) × In p (expects (end_of w))))
 
 -- T(i), from S(i-1) and what its paths expect
 abbrev pub Taken : CertPolicies → (Label → List Label) → (Path → Type 0) → Path → Type 0

@@ -6,7 +6,7 @@ use Rattle.ts_ext.specs.declared.known.Known.TheVariants.{PolicyMappings as poli
 use Rattle.ts_ext.specs.Policies.{Information, Mapping}
 use Rattle.ts_ext.specs.Reading.{certificate_policies_of, policy_mappings_of}
 use Rattle.ts_cert.specs.Certificate.{Tbs}
-use Rattle.ts_cert.specs.Stated.{stated}
+use Rattle.ts_cert.specs.Stated.{stated_value}
 use Rattle.ts_policy.specs.Labels.{Label}
 
 -- the policies of certificatePolicies, without their qualifiers
@@ -24,8 +24,8 @@ pairs_if_any (Some xs) = pairs xs
 
 -- certificatePolicies of the certificate, if it is there
 abbrev pub policies_of : Tbs → Option (List Label)
-policies_of t = option_map identifiers (stated certificatePolicies certificate_policies_of t)
+policies_of t = option_map identifiers (stated_value certificatePolicies certificate_policies_of t)
 
 -- policyMappings of the certificate
 abbrev pub mappings_of : Tbs → List (Label × Label)
-mappings_of t = pairs_if_any (stated policyMappings policy_mappings_of t)
+mappings_of t = pairs_if_any (stated_value policyMappings policy_mappings_of t)

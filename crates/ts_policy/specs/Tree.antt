@@ -5,7 +5,8 @@ use Rattle.std.specs.Prelude.{ℕ, zero, suc, Bool, true, false, not, ◌&&◌, 
 use Rattle.std.specs.Prelude.{if◌then◌else◌, List, [], ◌∷◌, ◌++◌, map, filter, Some, None, flat_map}
 use Rattle.std.specs.List.{list_any}
 use Rattle.ts_policy.specs.Labels.{Label, Path, any_policy, same, has}
-use Rattle.ts_policy.specs.Paths.{CertPolicies, stated, is_mapped, targets, end_of, any_counts}
+use Rattle.ts_policy.specs.Paths.{CertPolicies, policies_stated, is_mapped, targets, end_of}
+use Rattle.ts_policy.specs.Paths.{any_counts}
 use Rattle.ts_policy.specs.Paths.{count}
 
 -- a node: its valid_policy is the first label of its name, and its depth the number of labels; the
@@ -61,7 +62,7 @@ placed above p =
 
 -- the same for all stated policies
 abbrev pub placed_all : CertPolicies → List Node → List Node
-placed_all c above = flat_map (placed above) (stated c)
+placed_all c above = flat_map (placed above) (policies_stated c)
 
 -- (d)(2): a child of n for each label that n expects and that is not among its children
 abbrev pub missing : List Node → Node → List Node
@@ -71,7 +72,7 @@ missing children n =
 
 -- (d)(2), where anyPolicy is stated and counts
 abbrev pub filled : CertPolicies → List Node → List Node → List Node
-filled c above children = if has (stated c) any_policy && any_counts c
+filled c above children = if has (policies_stated c) any_policy && any_counts c
     then flat_map (missing children) above else []
 
 -- the new nodes of depth k + 1, from those of depth k

@@ -1,27 +1,27 @@
 //! What a certificate states of policies.
 
 ghost use Rattle.std.specs.Prelude.{◌≡◌, ◌↔◌, false, map};
-ghost use Rattle.ts_policy.specs.Paths.{stated, any_counts, MapsNoAny};
+ghost use Rattle.ts_policy.specs.Paths.{policies_stated, any_counts, MapsNoAny};
 ghost use Rattle.ts_policy.specs.Certificates.{policies_in, maps_any_of};
 
 use crate::labels::is_any;
+use ts_der::OidRef;
 
-/// A mapping (RFC 5280 4.2.1.5): two policies as the content octets of their object identifiers.
+/// A mapping (RFC 5280 4.2.1.5): two policies by their object identifiers.
 #[derive(Clone, Copy)]
 pub struct Mapping<'a> {
     /// The policy of the issuer's domain.
-    pub issuer_domain: &'a [u8],
+    pub issuer_domain: OidRef<'a>,
     /// The policy of the subject's domain.
-    pub subject_domain: &'a [u8],
+    pub subject_domain: OidRef<'a>,
 }
 
 /// What certificate i of a path of n certificates states of policies, and the state variables at it
 /// (RFC 5280 6.1.2).
 #[derive(Drop)]
 pub struct Certificate<'a> {
-    /// The policies of certificatePolicies, each as the content octets of its object identifier;
-    /// `None` where the extension is absent.
-    pub policies: Option<Vec<&'a [u8]>>,
+    /// The policies of certificatePolicies; `None` where the extension is absent.
+    pub policies: Option<Vec<OidRef<'a>>>,
     /// The pairs of policyMappings, none where the extension is absent.
     pub mappings: Vec<Mapping<'a>>,
     /// Whether issuer and subject are one name.
@@ -44,8 +44,8 @@ impl<'a> Certificate<'a> {
     }
 
     /// The policies that the certificate states.
-    pub(crate) fn stated(&self) -> &[&'a [u8]]
-        ensures { map (λ x. x.now) result.now ≡ stated (policies_in self.now) }
+    pub(crate) fn stated(&self) -> &[OidRef<'a>]
+        ensures { map (λ x. x.content.now) result.now ≡ policies_stated (policies_in self.now) }
     {
         match &self.policies {
             Some(policies) => policies.as_slice(),

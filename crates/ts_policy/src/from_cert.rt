@@ -10,6 +10,7 @@ ghost use Rattle.ts_policy.specs.Stated.{identifiers, pairs, policies_of, mappin
 use crate::certificate::{Certificate, Mapping};
 use std::alloc::{AllocError, Global};
 use ts_cert::Cert;
+use ts_der::OidRef;
 use ts_ext::{CertificatePolicies, PolicyMappings};
 
 impl<'a> Certificate<'a> {
@@ -50,8 +51,8 @@ impl<'a> Certificate<'a> {
 }
 
 /// The policies of a certificate's certificatePolicies; `None` where the extension is absent.
-fn stated_by<'a>(alloc: Global, cert: Cert<'a>) -> Result<Option<Vec<&'a [u8]>>, AllocError>
-    ensures { IfOk result (λ r. option_map (λ v. map (λ p. p.now) v.items) r
+fn stated_by<'a>(alloc: Global, cert: Cert<'a>) -> Result<Option<Vec<OidRef<'a>>>, AllocError>
+    ensures { IfOk result (λ r. option_map (λ v. map (λ p. p.content.now) v.items) r
         ≡ policies_of (cert_in cert.entry).tbsCertificate) }
 {
     match cert.certificate_policies() {
@@ -60,17 +61,17 @@ fn stated_by<'a>(alloc: Global, cert: Cert<'a>) -> Result<Option<Vec<&'a [u8]>>,
     }
 }
 
-/// The content octets of each policy's object identifier, in order.
+/// Each policy's object identifier, in order.
 fn labels_of<'a>(
     alloc: Global,
     policies: CertificatePolicies<'a>,
-) -> Result<Vec<&'a [u8]>, AllocError>
-    ensures { IfOk result (λ v. map (λ p. p.now) v.items
+) -> Result<Vec<OidRef<'a>>, AllocError>
+    ensures { IfOk result (λ v. map (λ p. p.content.now) v.items
         ≡ identifiers (information_in policies.entry)) }
 {
     let mut labels = Vec::new(alloc);
     for policy in policies.iter() {
-        labels.push(policy.policy_identifier.content)?;
+        labels.push(policy.policy_identifier)?;
     }
     Ok(labels)
 }
@@ -96,8 +97,8 @@ fn pairs_of<'a>(alloc: Global, mappings: PolicyMappings<'a>) -> Result<Vec<Mappi
     let mut pairs = Vec::new(alloc);
     for mapping in mappings.iter() {
         pairs.push(Mapping {
-            issuer_domain: mapping.issuer_domain_policy.content,
-            subject_domain: mapping.subject_domain_policy.content,
+            issuer_domain: mapping.issuer_domain_policy,
+            subject_domain: mapping.subject_domain_policy,
         })?;
     }
     Ok(pairs)

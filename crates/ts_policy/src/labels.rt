@@ -5,30 +5,33 @@ ghost use Rattle.ts_policy.specs.Labels.{Label, any_policy as anyPolicy, same, I
 ghost use Rattle.ts_policy.specs.Accepted.{AreAscending};
 
 use std::marker::Model;
+use ts_der::OidRef;
 
 /// The content octets of anyPolicy, 2.5.29.32.0 (RFC 5280 4.2.1.4).
 pub(crate) const ANY_POLICY: [u8; 4] = [85, 29, 32, 0];
 
 /// anyPolicy as a label.
-#[tactic(auto, unfolding(crate::specs::Labels::any_policy))]
-pub(crate) fn any_policy() -> &'static [u8]
-    ensures { result.now ≡ anyPolicy }
+#[tactic(auto, unfolding(crate::specs::Labels::any_policy, ts_der::specs::ObjectIdentifier::is_oid, ts_der::specs::ObjectIdentifier::series_of, ts_der::specs::ObjectIdentifier::subidentifier))]
+pub(crate) fn any_policy() -> OidRef<'static>
+    ensures { result.content.now ≡ anyPolicy }
 {
-    &ANY_POLICY
+    OidRef {
+        content: &ANY_POLICY,
+    }
 }
 
 /// Whether a label is anyPolicy.
 #[tactic(auto, unfolding(crate::specs::Labels::any_policy, crate::specs::Labels::same))]
-pub(crate) fn is_any(label: &[u8]) -> bool
-    ensures { result ≡ same label.now anyPolicy }
+pub(crate) fn is_any(label: OidRef<'_>) -> bool
+    ensures { result ≡ same label.entry.content.now anyPolicy }
 {
-    label == ANY_POLICY.as_slice()
+    label.content == ANY_POLICY.as_slice()
 }
 
 /// Distinct labels, sorted by their octets.
 #[derive(Drop)]
 pub(crate) struct Labels<'a> {
-    sorted: Vec<&'a [u8]>,
+    sorted: Vec<OidRef<'a>>,
 }
 
 impl<'a> Model for Labels<'a> {
@@ -37,7 +40,7 @@ impl<'a> Model for Labels<'a> {
 
     ghost Value = { List Label };
 
-    ghost use Rattle.ts_policy.specs.LabelSet.{labels_in, AreSorted};
+    ghost use Rattle.ts_policy.specs.inside.LabelSet.{labels_in, AreSorted};
 
     ghost view = { labels_in };
 
@@ -46,32 +49,34 @@ impl<'a> Model for Labels<'a> {
 
 impl<'a> Labels<'a> {
     /// The distinct labels of a list.
-    pub(crate) fn of(labels: Vec<&'a [u8]>) -> Labels<'a>
-        ensures { (p : Label) → In p result ↔ In p (map (λ x. x.now) labels.entry.items) }
+    pub(crate) fn of(labels: Vec<OidRef<'a>>) -> Labels<'a>
+        ensures { (p : Label) → In p result ↔ In p (map (λ x. x.content.now) labels.entry.items) }
     {
         let mut sorted = labels;
-        sorted.sort_unstable();
+        sorted.sort_unstable_by_key(|p| p.content);
         sorted.dedup();
         Labels { sorted }
     }
 
     /// Whether a label is one of them.
-    pub(crate) fn contains(&self, label: &'a [u8]) -> bool
-        ensures { result ≡ has self.now label.now }
+    pub(crate) fn contains(&self, label: OidRef<'a>) -> bool
+        ensures { result ≡ has self.now label.entry.content.now }
     {
-        self.sorted.binary_search(&label).is_ok()
+        self.sorted
+            .binary_search_by_key(&label.content, |p| p.content)
+            .is_ok()
     }
 
     /// The labels, ascending.
-    pub(crate) fn as_slice(&self) -> &[&'a [u8]]
-        ensures { map (λ x. x.now) result.now ≡ self.now }
+    pub(crate) fn as_slice(&self) -> &[OidRef<'a>]
+        ensures { map (λ x. x.content.now) result.now ≡ self.now }
     {
         &self.sorted
     }
 
     /// The labels, ascending.
-    pub(crate) fn into_vec(self) -> Vec<&'a [u8]>
-        ensures labels { map (λ x. x.now) result.items ≡ self.entry }
+    pub(crate) fn into_vec(self) -> Vec<OidRef<'a>>
+        ensures labels { map (λ x. x.content.now) result.items ≡ self.entry }
         ensures ascending { AreAscending self.entry }
     {
         self.sorted

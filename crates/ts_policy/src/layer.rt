@@ -4,23 +4,24 @@
 ghost use Rattle.std.specs.Prelude.{◌≡◌, ◌++◌, not, ◌&&◌, ◌||◌, map, filter, IfOk, List};
 ghost use Rattle.ts_policy.specs.Labels.{Label, any_policy as anyPolicy, same, has, In};
 ghost use Rattle.ts_policy.specs.Certificates.{mapping_in, policies_in};
-ghost use Rattle.ts_policy.specs.Layers as layers;
-ghost use Rattle.ts_policy.specs.Links.{link_in, link, AreMapped};
+ghost use Rattle.ts_policy.specs.inside.Layers as layers;
+ghost use Rattle.ts_policy.specs.inside.Links.{link_in, link, AreMapped};
 
 use crate::certificate::{Certificate, Mapping};
 use crate::labels::{Labels, any_policy, is_any};
 use std::alloc::{AllocError, Global};
+use ts_der::OidRef;
 
 /// A label of a layer, and one of the layer above that it follows. Above the first layer stands
 /// anyPolicy.
 #[derive(Clone, Copy)]
 pub(crate) struct Link<'a> {
-    pub(crate) label: &'a [u8],
-    pub(crate) above: &'a [u8],
+    pub(crate) label: OidRef<'a>,
+    pub(crate) above: OidRef<'a>,
 }
 
 /// The label of each link, in order.
-fn link_labels<'a>(alloc: Global, links: &[Link<'a>]) -> Result<Vec<&'a [u8]>, AllocError>
+fn link_labels<'a>(alloc: Global, links: &[Link<'a>]) -> Result<Vec<OidRef<'a>>, AllocError>
     ensures { IfOk result (λ labels. labels.items ≡ map (λ x. x.label) links.now) }
 {
     links.iter().map(|x| x.label).collect(alloc)
@@ -54,18 +55,19 @@ fn wanted<'a>(
 /// The links to anyPolicy from what is stated and nothing expects.
 fn unexpected<'a>(
     alloc: Global,
-    stated: &[&'a [u8]],
+    stated: &[OidRef<'a>],
     expected: &Labels<'a>,
-    above: &'a [u8],
+    above: OidRef<'a>,
 ) -> Result<Vec<Link<'a>>, AllocError>
     ensures { IfOk result (λ links. links.items
         ≡ map (λ p. link p above.entry)
-        (filter (λ p. not (same p.now anyPolicy) && not (has expected.now p.now)) stated.now)) }
+        (filter (λ p. not (same p.content.now anyPolicy) && not (has expected.now p.content.now))
+        stated.now)) }
 {
     stated
         .iter()
         .copied()
-        .filter(|p| !is_any(p) && !expected.contains(p))
+        .filter(|p| !is_any(*p) && !expected.contains(*p))
         .map(|label| Link { label, above })
         .collect(alloc)
 }
@@ -74,11 +76,11 @@ fn unexpected<'a>(
 /// above.
 fn unwanted<'a>(
     alloc: Global,
-    stated: &[&'a [u8]],
+    stated: &[OidRef<'a>],
     expected: &Labels<'a>,
 ) -> Result<Vec<Link<'a>>, AllocError>
     ensures { IfOk result (λ links. map link_in links.items
-        ≡ layers.unwanted_by expected.now (map (λ p. p.now) stated.now)) }
+        ≡ layers.unwanted_by expected.now (map (λ p. p.content.now) stated.now)) }
 {
     let above = any_policy();
     if expected.contains(above) {
@@ -111,11 +113,11 @@ fn absent<'a>(
     alloc: Global,
     labels: &Labels<'a>,
     mappings: &[Mapping<'a>],
-    above: &'a [u8],
+    above: OidRef<'a>,
 ) -> Result<Vec<Link<'a>>, AllocError>
     ensures { IfOk result (λ links. links.items
         ≡ map (λ m. link m.issuer_domain above.entry)
-        (filter (λ m. not (has labels.now m.issuer_domain.now)) mappings.now)) }
+        (filter (λ m. not (has labels.now m.issuer_domain.content.now)) mappings.now)) }
 {
     mappings
         .iter()
@@ -169,7 +171,7 @@ fn unmapped<'a>(
     mapped: &Labels<'a>,
 ) -> Result<Vec<Link<'a>>, AllocError>
     ensures { IfOk result (λ left. left.items
-        ≡ filter (λ x. not (has mapped.now x.label.now)) links.now) }
+        ≡ filter (λ x. not (has mapped.now x.label.content.now)) links.now) }
 {
     links
         .iter()
@@ -179,7 +181,10 @@ fn unmapped<'a>(
 }
 
 /// The issuer domain policy of each mapping, in order.
-fn issuer_domains<'a>(alloc: Global, mappings: &[Mapping<'a>]) -> Result<Vec<&'a [u8]>, AllocError>
+fn issuer_domains<'a>(
+    alloc: Global,
+    mappings: &[Mapping<'a>],
+) -> Result<Vec<OidRef<'a>>, AllocError>
     ensures { IfOk result (λ labels. labels.items ≡ map (λ m. m.issuer_domain) mappings.now) }
 {
     mappings.iter().map(|m| m.issuer_domain).collect(alloc)
@@ -219,7 +224,7 @@ fn by_mapping<'a>(
 ) -> Result<Vec<Link<'a>>, AllocError>
     ensures { IfOk result (λ pairs. pairs.items
         ≡ map (λ m. link m.subject_domain m.issuer_domain)
-        (filter (λ m. has labels.now m.issuer_domain.now) mappings.now)) }
+        (filter (λ m. has labels.now m.issuer_domain.content.now) mappings.now)) }
 {
     mappings
         .iter()
@@ -235,16 +240,16 @@ fn by_mapping<'a>(
 /// What the other labels expect: themselves.
 fn by_itself<'a>(
     alloc: Global,
-    labels: &[&'a [u8]],
+    labels: &[OidRef<'a>],
     mapped: &Labels<'a>,
 ) -> Result<Vec<Link<'a>>, AllocError>
     ensures { IfOk result (λ pairs. pairs.items
-        ≡ map (λ p. link p p) (filter (λ p. not (has mapped.now p.now)) labels.now)) }
+        ≡ map (λ p. link p p) (filter (λ p. not (has mapped.now p.content.now)) labels.now)) }
 {
     labels
         .iter()
         .copied()
-        .filter(|p| !mapped.contains(p))
+        .filter(|p| !mapped.contains(*p))
         .map(|p| Link { label: p, above: p })
         .collect(alloc)
 }

@@ -18,7 +18,8 @@
 //!
 //! Contracts see a `Policies` as the certificates that it took and whether the mappings of the
 //! latest are applied, and by these a set of paths of policies (`specs/Paths`), each policy being
-//! the content octets of its object identifier.
+//! the content octets of its object identifier. The code has `OidRef`s, so that a policy is an
+//! object identifier by its type.
 //!
 //! - [`Certificate::of`]: what an X.509 certificate states, by the values of its extensions.
 //! - [`Certificate::maps_any`]: false exactly where no mapping names anyPolicy.

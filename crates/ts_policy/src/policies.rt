@@ -8,14 +8,15 @@ ghost use Rattle.ts_policy.specs.Paths.{InT, count, LatestMapsNoAny, any_counts}
 ghost use Rattle.ts_policy.specs.Accepted.{IsAccepted, AreAscending, is_none};
 ghost use Rattle.ts_policy.specs.Seen.{Seen, InPaths};
 ghost use Rattle.ts_policy.specs.Certificates.{policies_in};
-ghost use Rattle.ts_policy.specs.Layers as graph;
-ghost use Rattle.ts_policy.specs.Links.{link_in};
+ghost use Rattle.ts_policy.specs.inside.Layers as graph;
+ghost use Rattle.ts_policy.specs.inside.Links.{link_in};
 
 use crate::certificate::Certificate;
 use crate::labels::{Labels, any_policy, is_any};
 use crate::layer::{Link, labels_of, map_layer, next_layer};
 use std::alloc::{AllocError, Global};
 use std::marker::Model;
+use ts_der::OidRef;
 
 /// The policies of the certificates of a path that were taken so far, from the trust anchor's side.
 ///
@@ -34,7 +35,7 @@ impl<'a> Model for Policies<'a> {
 
     ghost Value = { Seen };
 
-    ghost use Rattle.ts_policy.specs.Kept.{seen_as, IsKept};
+    ghost use Rattle.ts_policy.specs.inside.Kept.{seen_as, IsKept};
 
     ghost view = { seen_as };
 
@@ -134,12 +135,14 @@ impl<'a> Policies<'a> {
     /// # Errors
     ///
     /// Out of memory.
-    pub fn finish(self, alloc: Global, user: &[&'a [u8]]) -> Result<Vec<&'a [u8]>, AllocError>
+    pub fn finish(self, alloc: Global, user: &[OidRef<'a>]) -> Result<Vec<OidRef<'a>>, AllocError>
         requires { self.mapped ≡ false }
-        ensures accepted { IfOk result (λ found. (p : Label) → In p (map (λ x. x.now) found.items)
+        ensures accepted { IfOk result (λ found. (p : Label)
+            → In p (map (λ x. x.content.now) found.items)
             ↔ IsAccepted (count self.entry.certificates) (InT self.entry.certificates)
-            (map (λ x. x.now) user.now) p) }
-        ensures ascending { IfOk result (λ found. AreAscending (map (λ x. x.now) found.items)) }
+            (map (λ x. x.content.now) user.now) p) }
+        ensures ascending { IfOk result
+            (λ found. AreAscending (map (λ x. x.content.now) found.items)) }
     {
         let layers = self.layers;
         if layers.is_empty() {
@@ -191,7 +194,7 @@ fn tops<'a>(
     alloc: Global,
     links: &[Link<'a>],
     alive: &Labels<'a>,
-) -> Result<Vec<&'a [u8]>, AllocError>
+) -> Result<Vec<OidRef<'a>>, AllocError>
     ensures { IfOk result (λ labels. labels.items
         ≡ map (λ x. x.label) (filter (λ x. graph.is_top alive.now (link_in x)) links.now)) }
 {
@@ -208,9 +211,9 @@ fn above_alive<'a>(
     alloc: Global,
     links: &[Link<'a>],
     alive: &Labels<'a>,
-) -> Result<Vec<&'a [u8]>, AllocError>
+) -> Result<Vec<OidRef<'a>>, AllocError>
     ensures { IfOk result (λ labels. labels.items
-        ≡ map (λ x. x.above) (filter (λ x. has alive.now x.label.now) links.now)) }
+        ≡ map (λ x. x.above) (filter (λ x. has alive.now x.label.content.now) links.now)) }
 {
     links
         .iter()
@@ -225,8 +228,8 @@ fn firsts<'a>(
     alloc: Global,
     layers: &[Vec<Link<'a>>],
     ends: Labels<'a>,
-) -> Result<Vec<&'a [u8]>, AllocError>
-    ensures { IfOk result (λ found. map (λ x. x.now) found.items
+) -> Result<Vec<OidRef<'a>>, AllocError>
+    ensures { IfOk result (λ found. map (λ x. x.content.now) found.items
         ≡ graph.firsts (graph.newest (λ v. map link_in v.items) [] layers.now) ends.entry) }
 {
     let mut found = Vec::new(alloc);
@@ -243,43 +246,44 @@ fn firsts<'a>(
 }
 
 /// Whether the user names no policy, or anyPolicy.
-fn accepts_any(user: &[&[u8]]) -> bool
-    ensures { result ≡ (is_none (map (λ x. x.now) user.now)
-        || has (map (λ x. x.now) user.now) anyPolicy) }
+fn accepts_any(user: &[OidRef<'_>]) -> bool
+    ensures { result ≡ (is_none (map (λ x. x.content.now) user.now)
+        || has (map (λ x. x.content.now) user.now) anyPolicy) }
 {
     user.is_empty() || names_any(user)
 }
 
 /// Whether anyPolicy is among the user's policies.
-fn names_any(user: &[&[u8]]) -> bool
-    ensures { result ≡ list_any (λ p. same p.now anyPolicy) user.now }
+fn names_any(user: &[OidRef<'_>]) -> bool
+    ensures { result ≡ list_any (λ p. same p.content.now anyPolicy) user.now }
 {
-    user.iter().any(|p| is_any(p))
+    user.iter().any(|p| is_any(*p))
 }
 
 /// The user's policies that were found, in the user's order.
 fn members<'a>(
     alloc: Global,
     found: &Labels<'a>,
-    user: &[&'a [u8]],
-) -> Result<Vec<&'a [u8]>, AllocError>
-    ensures { IfOk result (λ xs. xs.items ≡ filter (λ p. has found.now p.now) user.now) }
+    user: &[OidRef<'a>],
+) -> Result<Vec<OidRef<'a>>, AllocError>
+    ensures { IfOk result (λ xs. xs.items ≡ filter (λ p. has found.now p.content.now) user.now) }
 {
     user.iter()
         .copied()
-        .filter(|p| found.contains(p))
+        .filter(|p| found.contains(*p))
         .collect(alloc)
 }
 
 /// What the user accepts, in no order.
 fn chosen<'a>(
     alloc: Global,
-    mut found: Vec<&'a [u8]>,
+    mut found: Vec<OidRef<'a>>,
     free: bool,
-    user: &[&'a [u8]],
-) -> Result<Vec<&'a [u8]>, AllocError>
-    ensures { IfOk result (λ xs. map (λ x. x.now) xs.items
-        ≡ graph.chosen (map (λ x. x.now) found.entry.items) free (map (λ x. x.now) user.now)) }
+    user: &[OidRef<'a>],
+) -> Result<Vec<OidRef<'a>>, AllocError>
+    ensures { IfOk result (λ xs. map (λ x. x.content.now) xs.items
+        ≡ graph.chosen (map (λ x. x.content.now) found.entry.items) free
+        (map (λ x. x.content.now) user.now)) }
 {
     if accepts_any(user) {
         if free {

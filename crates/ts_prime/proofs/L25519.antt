@@ -2,7 +2,7 @@
 use Rattle.std.proofs.Common.{ℕ, List, [], ◌∷◌, refl, lit<}
 use Rattle.ts_ring.specs.Modular.{IsField}
 use Rattle.ts_prime.specs.Primes.{l25519}
-use Rattle.ts_prime.specs.Certificate.{Row, row}
+use Rattle.ts_prime.specs.inside.Certificate.{Row, row}
 use Rattle.ts_prime.proofs.Lucas.{field_from}
 
 abbrev factors : List ℕ

@@ -1,12 +1,17 @@
 -- From a certificate to Fermat's theorem, and from there to a field and a prime.
-use Rattle.std.proofs.Common.{◌≡◌, ◌≢◌, ℕ, zero, suc, ◌+◌, ◌-◌, ◌*◌, ◌/◌, ◌%◌, ◌^◌, ◌<◌, ◌≤◌, Bool, true, false, not, ◌&&◌, ◌||◌, eqb, ltb, List, [], ◌∷◌, refl, sym, ap, subst, ◌∙◌, ◌⊎◌, inl, inr, arith}
-use Rattle.std.proofs.Math.Nat.{pow-zero, pow-suc, pow-succ', mod-eq_of_lt, mod-mod, mod-lt, mod_self, zero-mod, mul-zero, zero-mul, mul-one, one-mul, mul_comm, mul_assoc, eq_of_mul-eq-mul_left, mul-div_cancel_left, mul-mod_left, div-add-mod'}
+use Rattle.std.proofs.Common.{◌≡◌, ◌≢◌, ℕ, zero, suc, ◌+◌, ◌-◌, ◌*◌, ◌/◌, ◌%◌, ◌^◌, ◌<◌, ◌≤◌, Bool}
+use Rattle.std.proofs.Common.{true, false, not, ◌&&◌, ◌||◌, eqb, ltb, List, [], ◌∷◌, refl, sym, ap}
+use Rattle.std.proofs.Common.{subst, ◌∙◌, ◌⊎◌, inl, inr, arith}
+use Rattle.std.proofs.Math.Nat.{pow-zero, pow-suc, pow-succ', mod-eq_of_lt, mod-mod, mod-lt}
+use Rattle.std.proofs.Math.Nat.{mod_self, zero-mod, mul-zero, zero-mul, mul-one, one-mul, mul_comm}
+use Rattle.std.proofs.Math.Nat.{mul_assoc, eq_of_mul-eq-mul_left, mul-div_cancel_left, mul-mod_left}
+use Rattle.std.proofs.Math.Nat.{div-add-mod'}
 use Rattle.std.proofs.lemmas.Bool.{cases_eq, eqb-true, eqb-false, eq-eqb, ltb-true, not-true}
 use Rattle.std.proofs.lemmas.Nat.{pow-add, mul-pow, pow-mod, mul-mod_first, mul-mod_second}
 use Rattle.ts_ring.specs.Modular.{inverse, IsField}
 use Rattle.ts_ring.proofs.Fields.{product-nonzero, nonzero}
 use Rattle.ts_prime.specs.Prime.{IsPrime, IsFermat}
-use Rattle.ts_prime.specs.Certificate.{Row, row, power, product, is_proper, has_order, is_row, are_rows, is_certificate}
+use Rattle.ts_prime.specs.inside.Certificate.{Row, row, power, product, is_proper, has_order, is_row, are_rows, is_certificate}
 use Rattle.ts_prime.proofs.Pigeons.{onto}
 
 -- ---- powers

@@ -1,3 +1,3 @@
 pub mod Prime
 pub mod Primes
-pub mod Certificate
+pub mod inside

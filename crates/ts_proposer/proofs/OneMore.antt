@@ -4,12 +4,12 @@ use Rattle.ts_synod.specs.declared.message.Fact.{Fact}
 use Rattle.ts_synod.specs.declared.message.Vote.{Vote}
 use Rattle.ts_synod.specs.Majority.{count}
 use Rattle.ts_synod.specs.Force.{greater_vote, used_round}
-use Rattle.ts_synod.specs.Proposer.{greatest_reported, reported}
+use Rattle.ts_synod.specs.Proposer.{greatest_reported, reported_vote}
 
 pub count_more : (q : ℕ → Bool) (n : ℕ) → count q (n + 1) ≡ (if q (n + 1) then suc (count q n) else count q n)
 count_more q n = rw add-one refl
 
-pub greatest_more : {C : Type 0} (promises : ℕ → Option (Option (Vote C))) (n : ℕ) → greatest_reported promises (n + 1) ≡ greater_vote (greatest_reported promises n) (reported (promises (n + 1)))
+pub greatest_more : {C : Type 0} (promises : ℕ → Option (Option (Vote C))) (n : ℕ) → greatest_reported promises (n + 1) ≡ greater_vote (greatest_reported promises n) (reported_vote (promises (n + 1)))
 greatest_more promises n = rw add-one refl
 
 pub used_more : {C : Type 0} (fs gs : List (Fact C)) → used_round (fs ++ gs) ≡ max (used_round fs) (used_round gs)

@@ -44,7 +44,7 @@ abbrev pub StandsFor : {C : Type 0} → Proposer C → List (Fact C) → Type 0
 StandsFor p facts = used_of p ≡ used_round facts
 
 -- nothing of a proposer's state is changed
-pub record Unchanged {C : Type 0} (p q : Proposer C) : Type 0 where
+pub record IsUnchanged {C : Type 0} (p q : Proposer C) : Type 0 where
   pub config : config_of q ≡ config_of p
   pub state : state_of q ≡ state_of p
   pub used : used_of q ≡ used_of p

@@ -25,4 +25,4 @@
 mod promises;
 mod proposer;
 
-pub use proposer::{ProposeFault, Proposer, Step};
+pub use proposer::{ProposeFault, Proposer, ProposerEffect};

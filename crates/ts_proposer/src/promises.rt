@@ -4,9 +4,9 @@ ghost use Rattle.std.specs.Prelude.{◌≡◌, ◌≤◌, Some, is_some};
 ghost use Rattle.std.specs.Option.{option_copied};
 ghost use Rattle.std.specs.Ordering.{nat_cmp};
 ghost use Rattle.std.specs.BTreeMap.{get};
-ghost use Rattle.ts_synod.specs.Lists.{put};
+ghost use Rattle.ts_synod.specs.Lists.{update_at};
 ghost use Rattle.ts_synod.specs.Majority.{is_majority};
-ghost use Rattle.ts_synod.specs.Proposer.{greatest_reported, reported};
+ghost use Rattle.ts_synod.specs.Proposer.{greatest_reported, reported_vote};
 ghost use Rattle.ts_proposer.specs.Promises.{promises_in};
 
 use std::collections::BTreeMap;
@@ -32,7 +32,7 @@ pub fn has_majority<C: Command>(
 ) -> bool
     requires { nodes ≤ 9 }
     ensures { result ≡ is_majority nodes
-        (λ a. is_some (put (promises_in promises.now) from (Some taken.now) a)) }
+        (λ a. is_some (update_at (promises_in promises.now) from (Some taken.now) a)) }
 {
     let _taken = taken;
     let mut given: u8 = 0;
@@ -52,7 +52,7 @@ fn reported_by<'a, C: Command>(
     node: u8,
 ) -> Option<&'a Vote<C>>
     ensures { option_copied result
-        ≡ reported (put (promises_in promises.now) from (Some taken.now) node) }
+        ≡ reported_vote (update_at (promises_in promises.now) from (Some taken.now) node) }
 {
     if node == from {
         return taken.as_ref();
@@ -73,7 +73,7 @@ pub fn greatest_of<'a, C: Command>(
 ) -> Option<&'a Vote<C>>
     requires { nodes ≤ 9 }
     ensures { option_copied result
-        ≡ greatest_reported (put (promises_in promises.now) from (Some taken.now)) nodes }
+        ≡ greatest_reported (update_at (promises_in promises.now) from (Some taken.now)) nodes }
 {
     let mut greatest: Option<&'a Vote<C>> = None;
     for node in 0..nodes {

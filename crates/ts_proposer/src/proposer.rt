@@ -6,7 +6,7 @@ ghost use Rattle.std.specs.Option.{option_copied};
 ghost use Rattle.std.specs.Ordering.{nat_cmp};
 ghost use Rattle.std.specs.BTreeMap.{get};
 ghost use Rattle.ts_synod.specs.declared.message.Fact.{Fact};
-ghost use Rattle.ts_synod.specs.Lists.{put};
+ghost use Rattle.ts_synod.specs.Lists.{update_at};
 ghost use Rattle.ts_synod.specs.Force.{round_used_by};
 ghost use Rattle.ts_synod.specs.Proposer.{Phase, begin_phase_2, begin_round, command_to_propose};
 ghost use Rattle.ts_synod.specs.Proposer.{count_promises, drop_wanted, greatest_reported};
@@ -14,7 +14,7 @@ ghost use Rattle.ts_synod.specs.Proposer.{greatest_round, idle, on_busy, on_grow
 ghost use Rattle.ts_synod.specs.Proposer.{only_state, propose, rounds_are_exhausted};
 ghost use Rattle.ts_proposer.specs.Promises.{promises_in};
 ghost use Rattle.ts_proposer.specs.Proposer.{config_of, state_of, state_with, used_of, StandsFor};
-ghost use Rattle.ts_proposer.specs.Proposer.{Unchanged};
+ghost use Rattle.ts_proposer.specs.Proposer.{IsUnchanged};
 ghost use Rattle.ts_proposer.specs.Steps.{IsLatest, Makes, Proposes, state_after};
 
 use crate::promises::{greatest_of, has_majority, has_promised};
@@ -54,7 +54,7 @@ pub struct Proposer<C> {
 
 /// How a step changes a proposer.
 #[derive(Drop)]
-enum Change<C> {
+enum ProposerChange<C> {
     Nothing,
     Collect { from: u8, taken: Option<Vote<C>> },
     Become { next: State<C> },
@@ -63,10 +63,10 @@ enum Change<C> {
 /// What is to be kept on stable storage, what is to be sent after that, and the change of the
 /// proposer.
 #[derive(Drop)]
-pub struct Step<C> {
+pub struct ProposerEffect<C> {
     pub facts: Vec<Fact<C>>,
     pub messages: Vec<Message<C>>,
-    change: Change<C>,
+    change: ProposerChange<C>,
 }
 
 /// Why no round began.
@@ -144,7 +144,7 @@ impl<C: Command> Proposer<C> {
     }
 
     /// The step that begins a round for a command.
-    fn begin_round(&self, position: u32, command: C) -> Result<Step<C>, AllocError>
+    fn begin_round(&self, position: u32, command: C) -> Result<ProposerEffect<C>, AllocError>
         requires left { rounds_are_exhausted (used_of self.now) (state_of self.now) ≡ false }
         requires nodes { self.now.nodes ≤ 9 }
         ensures step { IfOk result (λ step. Makes self.now step
@@ -171,15 +171,15 @@ impl<C: Command> Proposer<C> {
             wanted: Some(command),
             round: Some(round),
         };
-        Ok(Step {
+        Ok(ProposerEffect {
             facts,
             messages,
-            change: Change::Become { next },
+            change: ProposerChange::Become { next },
         })
     }
 
     /// The step that proposes a command at a position, in place of any other.
-    pub fn propose(&self, position: u32, command: &C) -> Result<Step<C>, ProposeFault>
+    pub fn propose(&self, position: u32, command: &C) -> Result<ProposerEffect<C>, ProposeFault>
         requires { (config_of self.now).nodes ≤ 9 }
         ensures step { Proposes self.now result
             (propose (config_of self.now) (used_of self.now)
@@ -199,32 +199,32 @@ impl<C: Command> Proposer<C> {
     }
 
     /// The step that keeps and sends nothing, and makes this the state.
-    fn become_state(&self, next: State<C>) -> Step<C>
+    fn become_state(&self, next: State<C>) -> ProposerEffect<C>
         requires { next.used ≡ used_of self.now }
         ensures step { Makes self.now result (only_state (state_with (λ a. None) next)) }
         ensures latest { IsLatest self.now result }
     {
-        Step {
+        ProposerEffect {
             facts: Vec::new(self.alloc),
             messages: Vec::new(self.alloc),
-            change: Change::Become { next },
+            change: ProposerChange::Become { next },
         }
     }
 
     /// The step that does nothing.
-    fn no_step(&self) -> Step<C>
+    fn no_step(&self) -> ProposerEffect<C>
         ensures step { Makes self.now result (only_state (state_of self.now)) }
         ensures latest { IsLatest self.now result }
     {
-        Step {
+        ProposerEffect {
             facts: Vec::new(self.alloc),
             messages: Vec::new(self.alloc),
-            change: Change::Nothing,
+            change: ProposerChange::Nothing,
         }
     }
 
     /// The step that ends the round, and wants no command.
-    fn drop_wanted(&self) -> Step<C>
+    fn drop_wanted(&self) -> ProposerEffect<C>
         ensures step { Makes self.now result (drop_wanted (state_of self.now)) }
         ensures latest { IsLatest self.now result }
     {
@@ -242,7 +242,7 @@ impl<C: Command> Proposer<C> {
         position: u32,
         ballot: Ballot,
         promised: Ballot,
-    ) -> Result<Step<C>, AllocError>
+    ) -> Result<ProposerEffect<C>, AllocError>
         ensures step { IfOk result (λ step. Makes self.now step
             (on_busy (config_of self.now) (state_of self.now) position ballot promised)) }
         ensures latest { IfOk result (λ step. IsLatest self.now step) }
@@ -268,7 +268,7 @@ impl<C: Command> Proposer<C> {
 
     /// The step after the prefix has grown. `next` is where the wanted command can be proposed, if
     /// it can.
-    pub fn on_growth(&self, next: Option<u32>) -> Result<Step<C>, AllocError>
+    pub fn on_growth(&self, next: Option<u32>) -> Result<ProposerEffect<C>, AllocError>
         requires { (config_of self.now).nodes ≤ 9 }
         ensures step { IfOk result (λ step. Makes self.now step
             (on_growth (config_of self.now) (used_of self.now) (state_of self.now) next)) }
@@ -292,7 +292,7 @@ impl<C: Command> Proposer<C> {
         requires { self.now.nodes ≤ 9 }
         ensures { IfOk result (λ command. command
             ≡ command_to_propose (greatest_reported
-            (put (promises_in self.now.promises) from (Some taken.now)) self.now.nodes)
+            (update_at (promises_in self.now.promises) from (Some taken.now)) self.now.nodes)
             self.now.state.wanted) }
     {
         match greatest_of(self.nodes, &self.promises, from, taken) {
@@ -302,7 +302,7 @@ impl<C: Command> Proposer<C> {
     }
 
     /// The step that sends Accept with a command.
-    fn send_accept(&self, round: Round, command: C) -> Result<Step<C>, AllocError>
+    fn send_accept(&self, round: Round, command: C) -> Result<ProposerEffect<C>, AllocError>
         requires { self.now.nodes ≤ 9 }
         ensures step { IfOk result (λ step. (phase : Phase C)
             → Makes self.now step (begin_phase_2 (config_of self.now) (state_of self.now)
@@ -326,10 +326,10 @@ impl<C: Command> Proposer<C> {
             command,
         };
         let messages = broadcast(self.alloc, self.me, self.nodes, &body)?;
-        Ok(Step {
+        Ok(ProposerEffect {
             facts: Vec::new(self.alloc),
             messages,
-            change: Change::Become { next },
+            change: ProposerChange::Become { next },
         })
     }
 
@@ -339,13 +339,13 @@ impl<C: Command> Proposer<C> {
         round: Round,
         from: u8,
         taken: &Option<Vote<C>>,
-    ) -> Result<Step<C>, AllocError>
+    ) -> Result<ProposerEffect<C>, AllocError>
         requires { self.now.nodes ≤ 9 }
         ensures step { IfOk result (λ step. (phase : Phase C)
             → Makes self.now step (begin_phase_2 (config_of self.now) (state_of self.now)
             (record { number = round.number; position = round.position; phase = phase })
             (command_to_propose (greatest_reported
-            (put (promises_in self.now.promises) from (Some taken.now)) self.now.nodes)
+            (update_at (promises_in self.now.promises) from (Some taken.now)) self.now.nodes)
             self.now.state.wanted))) }
         ensures latest { IfOk result (λ step. IsLatest self.now step) }
     {
@@ -361,7 +361,7 @@ impl<C: Command> Proposer<C> {
     /// Makes a place for a node's promise.
     fn reserve(&mut self, from: u8) -> Result<(), AllocError>
         ensures place { OnOk result (is_some (get nat_cmp self.new.promises from) ≡ true) }
-        ensures same { Unchanged self.old self.new }
+        ensures same { IsUnchanged self.old self.new }
         ensures round { self.new.state.round ≡ self.old.state.round }
         ensures promises { promises_in self.new.promises ≡ promises_in self.old.promises }
     {
@@ -372,7 +372,12 @@ impl<C: Command> Proposer<C> {
     }
 
     /// The step that collects a new promise for the current round, which is in phase 1.
-    fn collect(&self, round: Round, from: u8, taken: Option<Vote<C>>) -> Result<Step<C>, AllocError>
+    fn collect(
+        &self,
+        round: Round,
+        from: u8,
+        taken: Option<Vote<C>>,
+    ) -> Result<ProposerEffect<C>, AllocError>
         requires nodes { self.now.nodes ≤ 9 }
         requires current { self.now.state.round ≡ Some round }
         requires phase { round.is_accepting ≡ false }
@@ -380,17 +385,17 @@ impl<C: Command> Proposer<C> {
         ensures step { IfOk result (λ step. (phase : Phase C)
             → Makes self.now step (count_promises (config_of self.now) (state_of self.now)
             (record { number = round.number; position = round.position; phase = phase })
-            (put (promises_in self.now.promises) from (Some taken)))) }
+            (update_at (promises_in self.now.promises) from (Some taken)))) }
         ensures latest { IfOk result (λ step. IsLatest self.now step) }
     {
         if has_majority(self.nodes, &self.promises, from, &taken) {
             let step = self.begin_phase_2(round, from, &taken)?;
             return Ok(step);
         }
-        Ok(Step {
+        Ok(ProposerEffect {
             facts: Vec::new(self.alloc),
             messages: Vec::new(self.alloc),
-            change: Change::Collect { from, taken },
+            change: ProposerChange::Collect { from, taken },
         })
     }
 
@@ -401,12 +406,12 @@ impl<C: Command> Proposer<C> {
         position: u32,
         ballot: Ballot,
         taken: Option<Vote<C>>,
-    ) -> Result<Step<C>, AllocError>
+    ) -> Result<ProposerEffect<C>, AllocError>
         requires { (config_of self.old).nodes ≤ 9 }
         ensures step { IfOk result (λ step. Makes self.new step
             (on_promise (config_of self.old) (state_of self.old) from position ballot taken)) }
         ensures latest { IfOk result (λ step. IsLatest self.new step) }
-        ensures same { Unchanged self.old self.new }
+        ensures same { IsUnchanged self.old self.new }
     {
         let Some(round) = self.state.round else {
             return Ok(self.no_step());
@@ -423,24 +428,24 @@ impl<C: Command> Proposer<C> {
     }
 
     /// Makes a step's change, which takes no memory.
-    pub fn keep(&mut self, step: Step<C>)
+    pub fn keep(&mut self, step: ProposerEffect<C>)
         requires { IsLatest self.old step }
         ensures state { state_of self.new ≡ state_after self.old step.change }
         ensures used { (facts : List (Fact C)) → StandsFor self.old facts
             → StandsFor self.new (facts ++ step.facts.items) }
         ensures config { config_of self.new ≡ config_of self.old }
     {
-        let Step {
+        let ProposerEffect {
             facts: _facts,
             messages: _messages,
             change,
         } = step;
         match change {
-            Change::Nothing => {}
-            Change::Collect { from, taken } => {
+            ProposerChange::Nothing => {}
+            ProposerChange::Collect { from, taken } => {
                 put_at(&mut self.promises, from, Some(taken));
             }
-            Change::Become { next } => {
+            ProposerChange::Become { next } => {
                 self.promises = BTreeMap::new(self.alloc);
                 self.state = next;
             }

@@ -1,5 +1,7 @@
 -- The fields of a question, and the question, are read in one way.
-use Rattle.std.proofs.Common.{◌≡◌, ℕ, ℤ, zero, suc, ◌+◌, ◌*◌, ◌/◌, ◌%◌, ◌^◌, ◌<◌, ◌≤◌, ◌==◌, ◌&&◌, Bool, true, false, cond, List, [], ◌∷◌, ◌++◌, length, Option, Some, None, refl, sym, ap, ◌∙◌, append_assoc, arith}
+use Rattle.std.proofs.Common.{◌≡◌, ℕ, ℤ, zero, suc, ◌+◌, ◌*◌, ◌/◌, ◌%◌, ◌^◌, ◌<◌, ◌≤◌, ◌==◌, ◌&&◌}
+use Rattle.std.proofs.Common.{Bool, true, false, cond, List, [], ◌∷◌, ◌++◌, length, Option, Some}
+use Rattle.std.proofs.Common.{None, refl, sym, ap, ◌∙◌, append_assoc, arith}
 use Rattle.std.specs.Prelude.{IfSome, is_some, nat_le, nat_lt}
 use Rattle.std.specs.List.{list_all, AllByRecursion}
 use Rattle.std.specs.Int.{w32, w64, to_be_bytes, cast_unsigned}
@@ -18,7 +20,11 @@ use Rattle.ts_question.specs.declared.terms.Presence.{Presence}
 use Rattle.ts_question.specs.declared.terms.Terms.{Terms}
 use Rattle.ts_question.specs.declared.question.Target.{Target}
 use Rattle.ts_question.specs.declared.question.Target.TheVariants.{Chain, Search, Store, Log}
-use Rattle.ts_question.specs.Question.{Asked, is_position, are_subtrees, are_terms, are_certificates, is_target, flags_octet, policies_encoding, subtrees_encoding, certificates_encoding, terms_encoding, kind_of, target_encoding, encoding, TermsFit, TargetFits, Fits}
+use Rattle.ts_question.specs.Question.{StoreQuestion, is_position_if_any, are_subtrees, are_terms}
+use Rattle.ts_question.specs.Question.{are_certificates, is_target, flags_octet, policies_encoding}
+use Rattle.ts_question.specs.Question.{subtrees_encoding, certificates_encoding, terms_encoding}
+use Rattle.ts_question.specs.Question.{question_kind, target_encoding, question_encoding, TermsFit}
+use Rattle.ts_question.specs.Question.{TargetFits, QuestionFits}
 use Rattle.ts_question.specs.QuestionReading.{bit, presence_of, presence_at, policies_at, subtrees_at, certificates_at, terms_at, targets, asked_of, question_at}
 
 -- ---- lists after their number
@@ -34,13 +40,19 @@ unfolding subtrees_at
 subtrees_part = fitting (counted_part (that_part number16 (λ n. nat_le n 64)) blob16_part) (λ xs. are_subtrees xs ≡ true) to from
   where
     to : (xs : List (List ℕ)) → ((length xs < 2 ^ 16) × (nat_le (length xs) 64 ≡ true)) × AllByRecursion (λ c. length c < 2 ^ 16) xs → are_subtrees xs ≡ true
-    to xs fit = both_true (nat_le (length xs) 64) (list_all (λ s. nat_le (length s) 65535) xs) fit.0.1 (all_true (λ s. nat_le (length s) 65535) (λ c. length c < 2 ^ 16) (λ c h. le-leb (length c) 65535 (omega (arith, h))) xs fit.1)
+    to xs fit = both_true (nat_le (length xs) 64) (list_all (λ s. nat_le (length s) 65535) xs)
+        fit.0.1 (all_true (λ s. nat_le (length s) 65535) (λ c. length c < 2 ^ 16)
+        (λ c h. le-leb (length c) 65535 (omega (arith, h))) xs fit.1)
 
     from : (xs : List (List ℕ)) → are_subtrees xs ≡ true → ((length xs < 2 ^ 16) × (nat_le (length xs) 64 ≡ true)) × AllByRecursion (λ c. length c < 2 ^ 16) xs
     from xs good =
         let few = first_true (nat_le (length xs) 64) (list_all (λ s. nat_le (length s) 65535) xs) good in
-        let n : length xs ≤ 64 = leb-true (length xs) 64 few in
-        ((omega (arith, n), few), each_true (λ s. nat_le (length s) 65535) (λ c. length c < 2 ^ 16) (λ c h. let k : length c ≤ 65535 = leb-true (length c) 65535 h in omega (arith, k)) xs (second_true (nat_le (length xs) 64) (list_all (λ s. nat_le (length s) 65535) xs) good))
+        let n : length xs ≤ 64 = leb-true (length xs) 64 few in (
+          (omega (arith, n), few),
+          each_true (λ s. nat_le (length s) 65535) (λ c. length c < 2 ^ 16)
+              (λ c h. let k : length c ≤ 65535 = leb-true (length c) 65535 h in omega (arith, k)) xs
+              (second_true (nat_le (length xs) 64) (list_all (λ s. nat_le (length s) 65535) xs) good),
+        )
 
 abbrev are_so_many : ℕ → ℕ → Bool
 are_so_many most n = nat_le 1 n && nat_le n most
@@ -50,13 +62,20 @@ unfolding certificates_at
 certificates_part most small = fitting (counted_part (that_part octet_part (are_so_many most)) (short_blob 65536 (omega arith))) (λ xs. are_certificates most xs ≡ true) to from
   where
     to : (xs : List (List ℕ)) → ((length xs < 256) × (are_so_many most (length xs) ≡ true)) × AllByRecursion (λ c. is_short 65536 c ≡ true) xs → are_certificates most xs ≡ true
-    to xs fit = both_true (are_so_many most (length xs)) (list_all (λ c. nat_le (length c) 65536) xs) fit.0.1 (all_true (λ c. nat_le (length c) 65536) (λ c. is_short 65536 c ≡ true) (λ c h. h) xs fit.1)
+    to xs fit = both_true (are_so_many most (length xs))
+        (list_all (λ c. nat_le (length c) 65536) xs) fit.0.1
+        (all_true (λ c. nat_le (length c) 65536) (λ c. is_short 65536 c ≡ true) (λ c h. h) xs fit.1)
 
     from : (xs : List (List ℕ)) → are_certificates most xs ≡ true → ((length xs < 256) × (are_so_many most (length xs) ≡ true)) × AllByRecursion (λ c. is_short 65536 c ≡ true) xs
     from xs good =
         let few = first_true (are_so_many most (length xs)) (list_all (λ c. nat_le (length c) 65536) xs) good in
-        let n : length xs ≤ most = leb-true (length xs) most (second_true (nat_le 1 (length xs)) (nat_le (length xs) most) few) in
-        ((omega (arith, n, small), few), each_true (λ c. nat_le (length c) 65536) (λ c. is_short 65536 c ≡ true) (λ c h. h) xs (second_true (are_so_many most (length xs)) (list_all (λ c. nat_le (length c) 65536) xs) good))
+        let n : length xs ≤ most = leb-true (length xs) most (second_true (nat_le 1 (length xs)) (nat_le (length xs) most) few) in (
+          (omega (arith, n, small), few),
+          each_true (λ c. nat_le (length c) 65536)
+              (λ c. is_short 65536 c ≡ true) (λ c h. h) xs
+              (second_true (are_so_many most (length xs)) (list_all (λ c. nat_le (length c) 65536) xs)
+              good),
+        )
 
 -- ---- bits
 
@@ -94,7 +113,12 @@ made_up o small =
     let e5 : o / 32 ≡ (o / 32) % 2 + 2 * (o / 64) = omega arith in
     let e6 : o / 64 ≡ (o / 64) % 2 = omega arith in
     rw (d0, d1, d2, d3, d4, d5, d6)
-    (sym (e0 ∙ ap (λ x. (o / 1) % 2 + 2 * x) (e1 ∙ ap (λ x. (o / 2) % 2 + 2 * x) (e2 ∙ ap (λ x. (o / 4) % 2 + 2 * x) (e3 ∙ ap (λ x. (o / 8) % 2 + 2 * x) (e4 ∙ ap (λ x. (o / 16) % 2 + 2 * x) (e5 ∙ ap (λ x. (o / 32) % 2 + 2 * x) (e6 ∙ omega arith))))))))
+    (sym (e0 ∙ ap (λ x. (o / 1) % 2 + 2 * x)
+    (e1 ∙ ap (λ x. (o / 2) % 2 + 2 * x)
+    (e2 ∙ ap (λ x. (o / 4) % 2 + 2 * x)
+    (e3 ∙ ap (λ x. (o / 8) % 2 + 2 * x)
+    (e4 ∙ ap (λ x. (o / 16) % 2 + 2 * x)
+    (e5 ∙ ap (λ x. (o / 32) % 2 + 2 * x) (e6 ∙ omega arith))))))))
 
 digit0 : (low high d : ℕ) → low < 1 → d ≤ 1 → (low + 1 * (d + 2 * high)) / 1 % 2 ≡ d
 digit0 low high d h k = omega arith
@@ -132,7 +156,10 @@ pub record Bits (o : ℕ) (b0 b1 b2 b3 b4 b5 b6 : Bool) : Type 0 where
 
 -- the number of bits has these bits
 taken_apart : (b0 b1 b2 b3 b4 b5 b6 : Bool) → Bits (bits (b0 ∷ b1 ∷ b2 ∷ b3 ∷ b4 ∷ b5 ∷ b6 ∷ [])) b0 b1 b2 b3 b4 b5 b6
-taken_apart b0 b1 b2 b3 b4 b5 b6 = by (bits (b0 ∷ b1 ∷ b2 ∷ b3 ∷ b4 ∷ b5 ∷ b6 ∷ [])) (n_of b0) (n_of b1) (n_of b2) (n_of b3) (n_of b4) (n_of b5) (n_of b6) refl refl refl refl refl refl refl refl (bit_below b0) (bit_below b1) (bit_below b2) (bit_below b3) (bit_below b4) (bit_below b5) (bit_below b6)
+taken_apart b0 b1 b2 b3 b4 b5 b6 = by (bits (b0 ∷ b1 ∷ b2 ∷ b3 ∷ b4 ∷ b5 ∷ b6 ∷ [])) (n_of b0)
+    (n_of b1) (n_of b2) (n_of b3) (n_of b4) (n_of b5) (n_of b6) refl refl refl refl refl refl refl
+    refl (bit_below b0) (bit_below b1) (bit_below b2) (bit_below b3) (bit_below b4) (bit_below b5)
+    (bit_below b6)
   where
     by : (o d0 d1 d2 d3 d4 d5 d6 : ℕ) → o ≡ d0 + 2 * (d1 + 2 * (d2 + 2 * (d3 + 2 * (d4 + 2 * (d5 + 2 * (d6 + 2 * 0))))))
         → d0 ≡ n_of b0 → d1 ≡ n_of b1 → d2 ≡ n_of b2 → d3 ≡ n_of b3 → d4 ≡ n_of b4 → d5 ≡ n_of b5 → d6 ≡ n_of b6
@@ -173,7 +200,20 @@ presence_part = into_part (that_part octet_part (λ o. nat_lt o 128)) presence_o
     parts p = taken_apart p.flags.explicit_policy p.flags.inhibit_policy_mapping p.flags.inhibit_any_policy p.flags.hard p.k p.purpose p.flags.use_deltas
 
     same : (p : Presence) → presence_of (flags_octet p.flags p.k p.purpose) ≡ p
-    same p = let b = parts p in λ i. record { flags = record { explicit_policy = b.s0 i; inhibit_policy_mapping = b.s1 i; inhibit_any_policy = b.s2 i; hard = b.s3 i; use_deltas = b.s6 i }; k = b.s4 i; purpose = b.s5 i }
+    same p = let b = parts p in
+        λ i. record {
+          flags =
+              record {
+                explicit_policy = b.s0 i;
+                inhibit_policy_mapping = b.s1 i;
+                inhibit_any_policy =
+                    b.s2 i;
+                hard = b.s3 i;
+                use_deltas = b.s6 i;
+              };
+          k = b.s4 i;
+          purpose = b.s5 i;
+        }
 
     fits : (p : Presence) → (flags_octet p.flags p.k p.purpose < 256) × (nat_lt (flags_octet p.flags p.k p.purpose) 128 ≡ true)
     fits p = let b = parts p in let n = ltb-true (flags_octet p.flags p.k p.purpose) 128 b.small in (omega (arith, n), b.small)
@@ -185,35 +225,38 @@ pub record Termed (t : Terms) : Type 0 where
   pub fits : TermsFit t
   pub within : are_terms t ≡ true
 
-position_within : (k : Option ℕ) → IfSome k (λ k. is_prefix k ≡ true) → is_position k ≡ true
+position_within : (k : Option ℕ) → IfSome k (λ k. is_prefix k ≡ true) → is_position_if_any k ≡ true
 position_within None fit = refl
 position_within (Some k) fit = fit
 
-position_fits : (k : Option ℕ) → is_position k ≡ true → IfSome k (λ k. is_prefix k ≡ true)
+position_fits : (k : Option ℕ) → is_position_if_any k ≡ true → IfSome k (λ k. is_prefix k ≡ true)
 position_fits None good = tt
 position_fits (Some k) good = good
 
 -- what are_terms says of each part
 pub record Within (t : Terms) : Type 0 where
-  pub k : is_position t.k ≡ true
+  pub k : is_position_if_any t.k ≡ true
   pub policies : nat_le (length t.user_policies) 32 ≡ true
   pub permitted : are_subtrees t.permitted_subtrees ≡ true
   pub excluded : are_subtrees t.excluded_subtrees ≡ true
 
 pub within_parts : (t : Terms) → are_terms t ≡ true → Within t
 within_parts t good =
-    let abc = first_true ((is_position t.k && nat_le (length t.user_policies) 32) && are_subtrees t.permitted_subtrees) (are_subtrees t.excluded_subtrees) good in
-    let ab = first_true (is_position t.k && nat_le (length t.user_policies) 32) (are_subtrees t.permitted_subtrees) abc in
+    let abc = first_true ((is_position_if_any t.k && nat_le (length t.user_policies) 32) && are_subtrees t.permitted_subtrees) (are_subtrees t.excluded_subtrees) good in
+    let ab = first_true (is_position_if_any t.k && nat_le (length t.user_policies) 32) (are_subtrees t.permitted_subtrees) abc in
     record {
-      k = first_true (is_position t.k) (nat_le (length t.user_policies) 32) ab;
-      policies = second_true (is_position t.k) (nat_le (length t.user_policies) 32) ab;
-      permitted = second_true (is_position t.k && nat_le (length t.user_policies) 32) (are_subtrees t.permitted_subtrees) abc;
-      excluded = second_true ((is_position t.k && nat_le (length t.user_policies) 32) && are_subtrees t.permitted_subtrees) (are_subtrees t.excluded_subtrees) good;
+      k = first_true (is_position_if_any t.k) (nat_le (length t.user_policies) 32) ab;
+      policies = second_true (is_position_if_any t.k) (nat_le (length t.user_policies) 32) ab;
+      permitted = second_true (is_position_if_any t.k && nat_le (length t.user_policies) 32) (are_subtrees t.permitted_subtrees) abc;
+      excluded = second_true ((is_position_if_any t.k && nat_le (length t.user_policies) 32) && are_subtrees t.permitted_subtrees) (are_subtrees t.excluded_subtrees) good;
     }
 
 within_all : (t : Terms) → Within t → are_terms t ≡ true
-within_all t w = both_true ((is_position t.k && nat_le (length t.user_policies) 32) && are_subtrees t.permitted_subtrees) (are_subtrees t.excluded_subtrees)
-    (both_true (is_position t.k && nat_le (length t.user_policies) 32) (are_subtrees t.permitted_subtrees) (both_true (is_position t.k) (nat_le (length t.user_policies) 32) w.k w.policies) w.permitted) w.excluded
+within_all t w = both_true ((is_position_if_any t.k && nat_le (length t.user_policies) 32) && are_subtrees t.permitted_subtrees) (are_subtrees t.excluded_subtrees)
+    (both_true (is_position_if_any t.k && nat_le (length t.user_policies) 32)
+    (are_subtrees t.permitted_subtrees)
+    (both_true (is_position_if_any t.k) (nat_le (length t.user_policies) 32) w.k w.policies)
+    w.permitted) w.excluded
 
 abbrev terms_of : ℤ → Presence → Option ℕ → Option (List ℕ) → List (List ℕ) → List (List ℕ) → List (List ℕ) → Terms
 terms_of moment presence k purpose policies permitted excluded = record {
@@ -266,7 +309,9 @@ terms_take octets t rest bytes is =
     (λ a o6 e5 b6 f5 h5. step subtrees_part o6 (λ excluded. answer (terms_of m p k u ps a excluded.0) excluded.1) (t, rest) b6 h5
     (λ b o7 e6 b7 f6 h6.
     made terms_encoding Termed octets o7 (terms_of m p k u ps a b) t rest h6
-    (joined (to_be_bytes w64 (cast_unsigned w64 m)) (flags_octet p.flags (is_some k) (is_some u)) (optional (to_be_bytes w32) k) (optional blob8 u) (policies_encoding ps) (subtrees_encoding a) (subtrees_encoding b) octets o1 o2 o3 o4 o5 o6 o7
+    (joined (to_be_bytes w64 (cast_unsigned w64 m)) (flags_octet p.flags (is_some k) (is_some u))
+    (optional (to_be_bytes w32) k) (optional blob8 u) (policies_encoding ps) (subtrees_encoding a)
+    (subtrees_encoding b) octets o1 o2 o3 o4 o5 o6 o7
     e0
     (e1 ∙ ap (λ b. flags_octet p.flags b p.purpose ∷ o2) (sym f2.1) ∙ ap (λ b. flags_octet p.flags (is_some k) b ∷ o2) (sym f3.1)) e2 e3 e4 e5 e6)
     b7
@@ -300,7 +345,12 @@ terms_again t rest fit =
     let r4 = policies_part.again t.user_policies o5 (w.policies, fit.fits.policies) in
     let r5 = subtrees_part.again t.permitted_subtrees o6 w.permitted in
     let r6 = subtrees_part.again t.excluded_subtrees rest w.excluded in
-    let all : terms_encoding t ++ rest ≡ first ++ o1 = sym (joined first (flags_octet t.flags (is_some t.k) (is_some t.purpose)) (optional (to_be_bytes w32) t.k) (optional blob8 t.purpose) (policies_encoding t.user_policies) (subtrees_encoding t.permitted_subtrees) (subtrees_encoding t.excluded_subtrees) (first ++ o1) o1 o2 o3 o4 o5 o6 rest refl refl refl refl refl refl refl) in
+    let all : terms_encoding t ++ rest ≡ first
+    ++ o1 = sym (joined first (flags_octet t.flags (is_some t.k) (is_some t.purpose))
+    (optional (to_be_bytes w32) t.k) (optional blob8 t.purpose)
+    (policies_encoding t.user_policies) (subtrees_encoding t.permitted_subtrees)
+    (subtrees_encoding t.excluded_subtrees) (first ++ o1) o1 o2 o3 o4 o5 o6 rest refl refl refl
+    refl refl refl refl) in
     ap terms_at all
     ∙ ap (λ r. r >>= after_moment) r0
     ∙ ap (λ r. r >>= after_presence m) r1
@@ -326,7 +376,7 @@ chain_part = and_part (octets_part 32) (certificates_part 16 (omega arith))
 search_part : Part certificates_encoding (λ xs. are_certificates 33 xs ≡ true) (certificates_at 33)
 search_part = certificates_part 33 (omega arith)
 
-targets_part : Kinds kind_of target_encoding Targeted targets
+targets_part : Kinds question_kind target_encoding Targeted targets
 targets_part = record {
   cases = case chain_part (λ x. Chain x.0 x.1) 1 (λ x fit. (record { fits = fit.0; within = fit.1 }, refl, refl))
       also case search_part Search 2 (λ xs fit. (record { fits = tt; within = fit }, refl, refl))
@@ -336,14 +386,16 @@ targets_part = record {
   again = again;
 }
   where
-    again : (t : Target) (rest : List ℕ) → Targeted t → (lookup (kind_of t) targets >>= λ fields. fields (target_encoding t ++ rest)) ≡ Some (t, rest)
+    again : (t : Target) (rest : List ℕ) → Targeted t → (lookup (question_kind t) targets >>= λ fields. fields (target_encoding t ++ rest)) ≡ Some (t, rest)
     again (Chain anchor cs) rest fit = parts_again chain_part (λ x. Chain x.0 x.1) (anchor, cs) rest (fit.fits, fit.within)
     again (Search cs) rest fit = parts_again search_part Search cs rest fit.within
     again (Store from) rest fit = parts_again word_part Store from rest fit.fits
     again (Log from) rest fit = parts_again word_part Log from rest fit.fits
 
 -- what follows the kind of a question
-asked_part : (kind : ℕ) → Part (λ q. terms_encoding q.terms ++ target_encoding q.target) (λ q. (Termed q.terms × Targeted q.target) × (kind_of q.target ≡ kind)) (terms_at and of_kind targets kind into asked_of)
+asked_part : (kind : ℕ) → Part (λ q. terms_encoding q.terms ++ target_encoding q.target)
+    (λ q. (Termed q.terms × Targeted q.target) × (question_kind q.target ≡ kind))
+    (terms_at and of_kind targets kind into asked_of)
 asked_part kind = into_part (and_part terms_part (fields_part targets_part kind)) asked_of (record {
   parts = λ q. (q.terms, q.target);
   same = λ q fit. refl;
@@ -352,12 +404,26 @@ asked_part kind = into_part (and_part terms_part (fields_part targets_part kind)
   octets = λ x fit. refl;
 })
 
-pub question_part : Part encoding Fits question_at
+pub question_part : Part question_encoding QuestionFits question_at
 unfolding question_at
-question_part = fitting (then_part any_octet (λ (q : Asked). kind_of q.target) (λ kind few. asked_part kind)) Fits
+question_part = fitting (then_part any_octet (λ (q : StoreQuestion). question_kind q.target) (λ kind few. asked_part kind)) QuestionFits
     (λ q fit. record { terms = fit.1.0.fits; target = fit.1.1.fits; within = both_true (are_terms q.terms) (is_target q.target) fit.1.0.within fit.1.1.within })
-    (λ q fit. (tt, (record { fits = fit.terms; within = first_true (are_terms q.terms) (is_target q.target) fit.within }, record { fits = fit.target; within = second_true (are_terms q.terms) (is_target q.target) fit.within })))
+    (λ q fit. (
+      tt,
+      (
+        record {
+          fits = fit.terms;
+          within =
+              first_true (are_terms q.terms) (is_target q.target) fit.within;
+        },
+        record {
+          fits = fit.target;
+          within =
+              second_true (are_terms q.terms) (is_target q.target) fit.within;
+        },
+      ),
+    ))
 
 -- no two questions have one encoding
-pub one_question : (q other : Asked) → Fits q → Fits other → encoding q ≡ encoding other → q ≡ other
+pub one_question : (q other : StoreQuestion) → QuestionFits q → QuestionFits other → question_encoding q ≡ question_encoding other → q ≡ other
 one_question = one question_part

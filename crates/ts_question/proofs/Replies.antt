@@ -14,13 +14,14 @@ use Rattle.ts_codec.proofs.Numbers.{octet_part, any_octet, number32, octets_part
 use Rattle.ts_codec.proofs.Rows.{that_part, fitting, test_part, and_part, then_part, into_part, parts_again, Case, case, bare_case, ◌also◌, kind_part}
 use Rattle.ts_codec.proofs.Lists.{blob8_part, counted_part}
 use Rattle.ts_codec.proofs.Values.{oid_part, prefix_part, tag_part, word_part}
-use Rattle.ts_question.specs.declared.reason.Reason.{Reason}
-use Rattle.ts_question.specs.declared.reason.Reason.TheVariants.{AnchorPurpose, Signature, TooEarly, Expired, Revoked, Undetermined, IssuerName, UnsupportedConstraint, NotPermitted, Excluded, PolicyRequired, MapsAny, NotCa, PathLength, KeyUsage, CriticalExtension, FinalPolicy, Purpose}
 use Rattle.ts_question.specs.declared.reply.Reply.{Reply}
 use Rattle.ts_question.specs.declared.reply.Reply.TheVariants.{Valid, Invalid, Found, NoPath, SearchLimit, NotYet, Malformed, NoAnchor, Limit, Page}
-use Rattle.ts_question.specs.Reply.{Answered, answered, is_distinct, are_places, are_countable, is_place, is_reply, number_of, detail, reason_encoding, accepted_encoding, tag_of, fields, encoding, DetailFits, FieldsFit, Fits}
-use Rattle.ts_question.specs.ReplyReading.{accepted_at, reasons, reason_at, valid_at, invalid_at, found_at, not_yet_at, malformed_at, page_at, replies, answer_at}
+use Rattle.ts_question.specs.Reply.{NumberedReply, numbered_reply, is_distinct, are_places}
+use Rattle.ts_question.specs.Reply.{are_countable, is_place, is_reply, accepted_encoding, tag_of}
+use Rattle.ts_question.specs.Reply.{reply_fields, answer_encoding, ReplyFieldsFit, AnswerFits}
+use Rattle.ts_question.specs.ReplyReading.{accepted_at, valid_at, invalid_at, found_at, not_yet_at, malformed_at, page_at, replies, answer_at}
 use Rattle.ts_question.proofs.Fields.{subtrees_part}
+use Rattle.ts_reason.proofs.Parts.{reason_part}
 
 -- ---- policies
 
@@ -34,68 +35,21 @@ accepted_part = fitting (counted_part number32 oid_part) (λ xs. (are_countable 
     from : (xs : List (List ℕ)) → (are_countable xs ≡ true) × (list_all is_oid xs ≡ true) → (length xs < 2 ^ 32) × AllByRecursion (λ c. is_oid c ≡ true) xs
     from xs fit = let n : length xs < 4294967296 = ltb-true (length xs) 4294967296 fit.0 in (omega (arith, n), each_true is_oid (λ c. is_oid c ≡ true) (λ c good. good) xs fit.1)
 
--- ---- reasons
-
-reason_again : (r : Reason) (rest : List ℕ) → DetailFits r → (lookup (number_of r) reasons >>= λ fields. fields (detail r ++ rest)) ≡ Some (r, rest)
-reason_again AnchorPurpose rest fit = refl
-reason_again Signature rest fit = refl
-reason_again TooEarly rest fit = refl
-reason_again Expired rest fit = refl
-reason_again (Revoked code) rest fit = refl
-reason_again Undetermined rest fit = refl
-reason_again IssuerName rest fit = refl
-reason_again UnsupportedConstraint rest fit = refl
-reason_again NotPermitted rest fit = refl
-reason_again Excluded rest fit = refl
-reason_again PolicyRequired rest fit = refl
-reason_again MapsAny rest fit = refl
-reason_again NotCa rest fit = refl
-reason_again PathLength rest fit = refl
-reason_again KeyUsage rest fit = refl
-reason_again (CriticalExtension oid) rest fit = parts_again oid_part CriticalExtension oid rest fit
-reason_again FinalPolicy rest fit = refl
-reason_again Purpose rest fit = refl
-
-plain : (r : Reason) (n : ℕ) → detail r ≡ [] → DetailFits r → number_of r ≡ n → Case number_of detail DetailFits n (bare r)
-plain r n none fit is = bare_case r n none fit is
-
-reason_cases : AllByRecursion (λ row. Case number_of detail DetailFits row.0 row.1) reasons
-reason_cases = plain AnchorPurpose 1 refl tt refl
-    also plain Signature 2 refl tt refl
-    also plain TooEarly 3 refl tt refl
-    also plain Expired 4 refl tt refl
-    also case any_octet Revoked 5 (λ x fit. (tt, refl, refl))
-    also plain Undetermined 6 refl tt refl
-    also plain IssuerName 7 refl tt refl
-    also plain UnsupportedConstraint 8 refl tt refl
-    also plain NotPermitted 9 refl tt refl
-    also plain Excluded 10 refl tt refl
-    also plain PolicyRequired 11 refl tt refl
-    also plain MapsAny 12 refl tt refl
-    also plain NotCa 13 refl tt refl
-    also plain PathLength 14 refl tt refl
-    also plain KeyUsage 15 refl tt refl
-    also case oid_part CriticalExtension 16 (λ x fit. (fit, refl, refl))
-    also plain FinalPolicy 17 refl tt refl
-    also plain Purpose 18 refl tt refl
-    also tt
-
-reason_part : Part reason_encoding DetailFits reason_at
-unfolding reason_at
-reason_part = kind_part (record { cases = reason_cases; again = reason_again })
-
 -- ---- replies
 
 -- what fits as a reply after k commands
 pub record Replied (k : ℕ) (r : Reply) : Type 0 where
-  pub fits : FieldsFit r
+  pub fits : ReplyFieldsFit r
   pub within : is_reply k r ≡ true
 
 valid_part : Part (λ x. x.0 ++ accepted_encoding x.1) (λ x. (length x.0 ≡ 32) × ((are_countable x.1 ≡ true) × (list_all is_oid x.1 ≡ true))) (octets_at 32 and accepted_at)
 valid_part = and_part (octets_part 32) accepted_part
 
 are_few : (places : List ℕ) → are_places places ≡ true → nat_le (length places) 255 ≡ true
-are_few places good = first_true (nat_le (length places) 255) (slice_index places (length places - 1) == 1) (first_true (nat_le (length places) 255 && slice_index places (length places - 1) == 1) (is_distinct places) good)
+are_few places good =
+    first_true (nat_le (length places) 255) (slice_index places (length places - 1) == 1)
+    (first_true (nat_le (length places) 255 && slice_index places (length places - 1) == 1)
+    (is_distinct places) good)
 
 places_part : Part blob8 (λ places. are_places places ≡ true) (blob8_at that are_places)
 places_part = test_part blob8_part are_places (λ places good. let few : length places ≤ 255 = leb-true (length places) 255 (are_few places good) in omega (arith, few))
@@ -106,7 +60,7 @@ place_part = test_part octet_part is_place (λ p good. let few : p ≤ 16 = leb-
 malformed_part : Part (λ x. x.0 ∷ x.1.0 ∷ to_be_bytes w32 x.1.1) (λ x. Unit {0} × (Unit {0} × (nat_lt x.1.1 4294967296 ≡ true))) (octet_at and octet_at and number_at w32)
 malformed_part = and_part any_octet (and_part any_octet word_part)
 
-reply_again : (k : ℕ) (r : Reply) (rest : List ℕ) → Replied k r → (lookup (tag_of r) (replies k) >>= λ read. read (fields r ++ rest)) ≡ Some (r, rest)
+reply_again : (k : ℕ) (r : Reply) (rest : List ℕ) → Replied k r → (lookup (tag_of r) (replies k) >>= λ read. read (reply_fields r ++ rest)) ≡ Some (r, rest)
 unfolding valid_at invalid_at found_at not_yet_at malformed_at page_at
 reply_again k (Valid anchor ps) rest fit = parts_again valid_part (λ x. Valid x.0 x.1) (anchor, ps) rest (fit.fits.0, (fit.within, fit.fits.1))
 reply_again k (Invalid p reason) rest fit = parts_again (and_part place_part reason_part) (λ x. Invalid x.0 x.1) (p, reason) rest (fit.within, fit.fits)
@@ -121,7 +75,7 @@ reply_again k NoAnchor rest fit = refl
 reply_again k Limit rest fit = parts_again (tag_part 1) (λ o. Limit) 1 rest (omega arith, refl)
 reply_again k (Page total rows) rest fit = parts_again (and_part word_part subtrees_part) (λ x. Page x.0 x.1) (total, rows) rest (fit.fits, fit.within)
 
-reply_cases : (k : ℕ) → AllByRecursion (λ row. Case tag_of fields (Replied k) row.0 row.1) (replies k)
+reply_cases : (k : ℕ) → AllByRecursion (λ row. Case tag_of reply_fields (Replied k) row.0 row.1) (replies k)
 unfolding valid_at invalid_at found_at not_yet_at malformed_at page_at
 reply_cases k =
     case valid_part (λ x. Valid x.0 x.1) 1 (λ x fit. (record { fits = (fit.0, fit.1.1); within = fit.1.0 }, refl, refl))
@@ -139,21 +93,21 @@ reply_cases k =
 
 -- ---- the answer
 
-answered_part : (k : ℕ) → Part (λ a. tag_of a.reply ∷ fields a.reply) (λ a. Replied a.k a.reply × (a.k ≡ k)) (by_kind (replies k) into answered k)
-answered_part k = into_part (kind_part (record { cases = reply_cases k; again = reply_again k })) (answered k) (record {
+answered_part : (k : ℕ) → Part (λ a. tag_of a.reply ∷ reply_fields a.reply) (λ a. Replied a.k a.reply × (a.k ≡ k)) (by_kind (replies k) into numbered_reply k)
+answered_part k = into_part (kind_part (record { cases = reply_cases k; again = reply_again k })) (numbered_reply k) (record {
   parts = λ a. a.reply;
-  same = λ a fit. ap (λ n. answered n a.reply) (sym fit.1);
+  same = λ a fit. ap (λ n. numbered_reply n a.reply) (sym fit.1);
   fit = λ a fit. subst (λ n. Replied n a.reply) fit.1 fit.0;
   fits = λ r fit. (fit, refl);
   octets = λ r fit. refl;
 })
 
-pub answer_part : Part encoding Fits answer_at
+pub answer_part : Part answer_encoding AnswerFits answer_at
 unfolding answer_at
-answer_part = fitting (then_part prefix_part (λ (a : Answered). a.k) (λ k good. answered_part k)) Fits
+answer_part = fitting (then_part prefix_part (λ (a : NumberedReply). a.k) (λ k good. answered_part k)) AnswerFits
     (λ a fit. record { fields = fit.1.fits; within = both_true (is_prefix a.k) (is_reply a.k a.reply) fit.0 fit.1.within })
     (λ a fit. (first_true (is_prefix a.k) (is_reply a.k a.reply) fit.within, record { fits = fit.fields; within = second_true (is_prefix a.k) (is_reply a.k a.reply) fit.within }))
 
 -- no two answers have one encoding
-pub one_answer : (a other : Answered) → Fits a → Fits other → encoding a ≡ encoding other → a ≡ other
+pub one_answer : (a other : NumberedReply) → AnswerFits a → AnswerFits other → answer_encoding a ≡ answer_encoding other → a ≡ other
 one_answer = one answer_part

@@ -9,7 +9,7 @@ use Rattle.ts_codec.proofs.Rows.{and_part, into_part}
 use Rattle.ts_codec.proofs.Lists.{blob16_part}
 use Rattle.ts_codec.proofs.Values.{signed_part, marked_part}
 use Rattle.ts_question.specs.Rows.{moment_encoding, anchor_encoding, crl_encoding, command_encoding, AnchorFits, CrlFits, CommandFits}
-use Rattle.ts_question.specs.RowReading.{anchor_of, crl_of, command_of, anchor_at, crl_at, command_at}
+use Rattle.ts_question.specs.inside.RowReading.{anchor_of, crl_of, command_of, anchor_at, crl_at, command_at}
 
 moment_part : Part moment_encoding (λ m. FitsSigned w64 m) signed_at
 unfolding moment_encoding

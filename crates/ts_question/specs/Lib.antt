@@ -3,5 +3,5 @@ pub mod QuestionReading
 pub mod Reply
 pub mod ReplyReading
 pub mod Rows
-pub mod RowReading
 pub mod RowView
+pub mod inside

@@ -13,7 +13,7 @@ use Rattle.ts_question.specs.declared.question.Target.TheVariants.{Chain, Search
 use Rattle.ts_codec.specs.Parts.{bits, blob8, blob16, blob32, optional}
 
 -- what is asked
-pub record Asked : Type 0 where
+pub record StoreQuestion : Type 0 where
   pub terms : Terms
   pub target : Target
 
@@ -38,9 +38,9 @@ plain_terms k = record {
 -- ---- limits
 
 -- a store's position, or none
-abbrev pub is_position : Option ℕ → Bool
-is_position None = true
-is_position (Some k) = nat_le k 1000000
+abbrev pub is_position_if_any : Option ℕ → Bool
+is_position_if_any None = true
+is_position_if_any (Some k) = nat_le k 1000000
 
 -- at most 64 subtrees, whose lengths two octets hold
 abbrev pub are_subtrees : List (List ℕ) → Bool
@@ -48,7 +48,7 @@ are_subtrees subtrees = nat_le (length subtrees) 64
     && list_all (λ s. nat_le (length s) 65535) subtrees
 
 abbrev pub are_terms : Terms → Bool
-are_terms t = is_position t.k && nat_le (length t.user_policies) 32
+are_terms t = is_position_if_any t.k && nat_le (length t.user_policies) 32
     && are_subtrees t.permitted_subtrees && are_subtrees t.excluded_subtrees
 
 -- at least one certificate, and at most so many, each of at most 65,536 octets
@@ -63,7 +63,7 @@ is_target (Search certificates) = are_certificates 33 certificates
 is_target (Store from) = true
 is_target (Log from) = true
 
-abbrev pub is_within : Asked → Bool
+abbrev pub is_within : StoreQuestion → Bool
 is_within q = are_terms q.terms && is_target q.target
 
 -- ---- encoding
@@ -95,11 +95,11 @@ terms_encoding t = to_be_bytes w64 (cast_unsigned w64 t.moment)
     ++ (subtrees_encoding t.permitted_subtrees
     ++ subtrees_encoding t.excluded_subtrees)))))
 
-abbrev pub kind_of : Target → ℕ
-kind_of (Chain anchor certificates) = 1
-kind_of (Search certificates) = 2
-kind_of (Store from) = 3
-kind_of (Log from) = 4
+abbrev pub question_kind : Target → ℕ
+question_kind (Chain anchor certificates) = 1
+question_kind (Search certificates) = 2
+question_kind (Store from) = 3
+question_kind (Log from) = 4
 
 abbrev pub target_encoding : Target → List ℕ
 target_encoding (Chain anchor certificates) = anchor ++ certificates_encoding certificates
@@ -109,8 +109,8 @@ target_encoding (Log from) = to_be_bytes w32 from
 
 -- 1 for a chain, 2 for a search, 3 for the store and 4 for the log; the terms; and the
 -- certificates, or the number of rows before a page
-abbrev pub encoding : Asked → List ℕ
-encoding q = kind_of q.target ∷ (terms_encoding q.terms ++ target_encoding q.target)
+abbrev pub question_encoding : StoreQuestion → List ℕ
+question_encoding q = question_kind q.target ∷ (terms_encoding q.terms ++ target_encoding q.target)
 
 -- ---- which have an encoding
 
@@ -125,7 +125,7 @@ TargetFits (Search certificates) = Unit {0}
 TargetFits (Store from) = nat_lt from 4294967296 ≡ true
 TargetFits (Log from) = nat_lt from 4294967296 ≡ true
 
-pub record Fits (q : Asked) : Type 0 where
+pub record QuestionFits (q : StoreQuestion) : Type 0 where
   pub terms : TermsFit q.terms
   pub target : TargetFits q.target
   pub within : is_within q ≡ true

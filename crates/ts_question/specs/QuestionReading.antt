@@ -9,7 +9,7 @@ use Rattle.ts_question.specs.declared.terms.Presence.{Presence}
 use Rattle.ts_question.specs.declared.terms.Terms.{Terms}
 use Rattle.ts_question.specs.declared.question.Target.{Target}
 use Rattle.ts_question.specs.declared.question.Target.TheVariants.{Chain, Search, Store, Log}
-use Rattle.ts_question.specs.Question.{Asked}
+use Rattle.ts_question.specs.Question.{StoreQuestion}
 
 abbrev pub bit : ℕ → ℕ → Bool
 bit octet weight = octet / weight % 2 == 1
@@ -69,8 +69,8 @@ targets = (1, octets_at 32 and certificates_at 16 into (λ x. Chain x.0 x.1))
     ∷ (2, certificates_at 33 into Search) ∷ (3, number_at w32 into Store)
     ∷ (4, number_at w32 into Log) ∷ []
 
-abbrev pub asked_of : Terms × Target → Asked
+abbrev pub asked_of : Terms × Target → StoreQuestion
 asked_of x = record { terms = x.0; target = x.1 }
 
-unfoldable pub question_at : Reader Asked
+unfoldable pub question_at : Reader StoreQuestion
 question_at = octet_at then (λ kind. terms_at and of_kind targets kind into asked_of)

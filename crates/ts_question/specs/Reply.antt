@@ -4,29 +4,21 @@ use Rattle.std.specs.Prelude.{◌∷◌, ◌++◌, length, slice_index}
 use Rattle.std.specs.List.{flat_map, list_all, list_any}
 use Rattle.std.specs.Int.{to_be_bytes, w32}
 use Rattle.ts_der.specs.ObjectIdentifier.{is_oid}
-use Rattle.ts_question.specs.declared.reason.Reason.{Reason}
-use Rattle.ts_question.specs.declared.reason.Reason.TheVariants.{AnchorPurpose, Signature, TooEarly}
-use Rattle.ts_question.specs.declared.reason.Reason.TheVariants.{Expired, Revoked, Undetermined}
-use Rattle.ts_question.specs.declared.reason.Reason.TheVariants.{IssuerName, UnsupportedConstraint}
-use Rattle.ts_question.specs.declared.reason.Reason.TheVariants.{NotPermitted, Excluded}
-use Rattle.ts_question.specs.declared.reason.Reason.TheVariants.{PolicyRequired, MapsAny, NotCa}
-use Rattle.ts_question.specs.declared.reason.Reason.TheVariants.{PathLength, KeyUsage}
-use Rattle.ts_question.specs.declared.reason.Reason.TheVariants.{CriticalExtension, FinalPolicy}
-use Rattle.ts_question.specs.declared.reason.Reason.TheVariants.{Purpose}
 use Rattle.ts_question.specs.declared.reply.Reply.{Reply}
 use Rattle.ts_question.specs.declared.reply.Reply.TheVariants.{Valid, Invalid, Found, NoPath}
 use Rattle.ts_question.specs.declared.reply.Reply.TheVariants.{SearchLimit, NotYet, Malformed}
 use Rattle.ts_question.specs.declared.reply.Reply.TheVariants.{NoAnchor, Limit, Page}
 use Rattle.ts_codec.specs.Parts.{blob8}
+use Rattle.ts_reason.specs.Octets as reasons
 use Rattle.ts_question.specs.Question.{are_subtrees, subtrees_encoding}
 
 -- a reply, and the number of commands after which the store was looked at
-pub record Answered : Type 0 where
+pub record NumberedReply : Type 0 where
   pub k : ℕ
   pub reply : Reply
 
-abbrev pub answered : ℕ → Reply → Answered
-answered k reply = record { k = k; reply = reply }
+abbrev pub numbered_reply : ℕ → Reply → NumberedReply
+numbered_reply k reply = record { k = k; reply = reply }
 
 -- ---- ranges
 
@@ -58,40 +50,10 @@ is_reply k (NotYet prefix) = nat_lt prefix k
 is_reply k (Page total rows) = are_subtrees rows
 is_reply k other = true
 
-abbrev pub is_answer : Answered → Bool
+abbrev pub is_answer : NumberedReply → Bool
 is_answer a = nat_le a.k 1000000 && is_reply a.k a.reply
 
 -- ---- encoding
-
-abbrev pub number_of : Reason → ℕ
-number_of AnchorPurpose = 1
-number_of Signature = 2
-number_of TooEarly = 3
-number_of Expired = 4
-number_of (Revoked code) = 5
-number_of Undetermined = 6
-number_of IssuerName = 7
-number_of UnsupportedConstraint = 8
-number_of NotPermitted = 9
-number_of Excluded = 10
-number_of PolicyRequired = 11
-number_of MapsAny = 12
-number_of NotCa = 13
-number_of PathLength = 14
-number_of KeyUsage = 15
-number_of (CriticalExtension oid) = 16
-number_of FinalPolicy = 17
-number_of Purpose = 18
-
--- the code of a revocation, and the object identifier of an extension
-abbrev pub detail : Reason → List ℕ
-detail (Revoked code) = code ∷ []
-detail (CriticalExtension oid) = blob8 oid
-detail other = []
-
--- the number, and what it says beside it
-abbrev pub reason_encoding : Reason → List ℕ
-reason_encoding reason = number_of reason ∷ detail reason
 
 -- four octets of their number, and the contents octets of each
 abbrev pub accepted_encoding : List (List ℕ) → List ℕ
@@ -109,37 +71,34 @@ tag_of NoAnchor = 8
 tag_of Limit = 9
 tag_of (Page total rows) = 10
 
-abbrev pub fields : Reply → List ℕ
-fields (Valid anchor policies) = anchor ++ accepted_encoding policies
-fields (Invalid position reason) = position ∷ reason_encoding reason
-fields (Found anchor places policies) = anchor ++ (blob8 places ++ accepted_encoding policies)
-fields NoPath = []
-fields SearchLimit = []
-fields (NotYet prefix) = to_be_bytes w32 prefix
-fields (Malformed index fault place) = index ∷ fault ∷ to_be_bytes w32 place
-fields NoAnchor = []
-fields Limit = 1 ∷ []
-fields (Page total rows) = to_be_bytes w32 total ++ subtrees_encoding rows
+abbrev pub reply_fields : Reply → List ℕ
+reply_fields (Valid anchor policies) = anchor ++ accepted_encoding policies
+reply_fields (Invalid position reason) = position ∷ reasons.encoding reason
+reply_fields (Found anchor places policies) = anchor ++ (blob8 places ++ accepted_encoding policies)
+reply_fields NoPath = []
+reply_fields SearchLimit = []
+reply_fields (NotYet prefix) = to_be_bytes w32 prefix
+reply_fields (Malformed index fault place) = index ∷ fault ∷ to_be_bytes w32 place
+reply_fields NoAnchor = []
+reply_fields Limit = 1 ∷ []
+reply_fields (Page total rows) = to_be_bytes w32 total ++ subtrees_encoding rows
 
 -- four octets of k, the tag, and the fields
-abbrev pub encoding : Answered → List ℕ
-encoding a = to_be_bytes w32 a.k ++ (tag_of a.reply ∷ fields a.reply)
+abbrev pub answer_encoding : NumberedReply → List ℕ
+answer_encoding a = to_be_bytes w32 a.k ++ (tag_of a.reply ∷ reply_fields a.reply)
 
 -- ---- which have an encoding
 
-abbrev pub DetailFits : Reason → Type 0
-DetailFits (CriticalExtension oid) = is_oid oid ≡ true
-DetailFits other = Unit {0}
+abbrev pub ReplyFieldsFit : Reply → Type 0
+ReplyFieldsFit (Valid anchor policies) = (length anchor ≡ 32) × (list_all is_oid policies ≡ true)
+ReplyFieldsFit (Invalid position reason) = reasons.Fits reason
+ReplyFieldsFit (Found anchor places policies) = (length anchor ≡ 32)
+    × (list_all is_oid policies ≡ true)
+ReplyFieldsFit (NotYet prefix) = nat_lt prefix 4294967296 ≡ true
+ReplyFieldsFit (Malformed index fault place) = nat_lt place 4294967296 ≡ true
+ReplyFieldsFit (Page total rows) = nat_lt total 4294967296 ≡ true
+ReplyFieldsFit other = Unit {0}
 
-abbrev pub FieldsFit : Reply → Type 0
-FieldsFit (Valid anchor policies) = (length anchor ≡ 32) × (list_all is_oid policies ≡ true)
-FieldsFit (Invalid position reason) = DetailFits reason
-FieldsFit (Found anchor places policies) = (length anchor ≡ 32) × (list_all is_oid policies ≡ true)
-FieldsFit (NotYet prefix) = nat_lt prefix 4294967296 ≡ true
-FieldsFit (Malformed index fault place) = nat_lt place 4294967296 ≡ true
-FieldsFit (Page total rows) = nat_lt total 4294967296 ≡ true
-FieldsFit other = Unit {0}
-
-pub record Fits (a : Answered) : Type 0 where
-  pub fields : FieldsFit a.reply
+pub record AnswerFits (a : NumberedReply) : Type 0 where
+  pub fields : ReplyFieldsFit a.reply
   pub within : is_answer a ≡ true

@@ -4,36 +4,16 @@ use Rattle.std.specs.Int.{w32}
 use Rattle.ts_codec.specs.Reading.{Reader, ◌that◌, ◌and◌, ◌then◌, ◌into◌, bare, octet_at, tag_at}
 use Rattle.ts_codec.specs.Reading.{number_at, octets_at, blob8_at, oid_at, prefix_at, many_at}
 use Rattle.ts_codec.specs.Reading.{by_kind}
-use Rattle.ts_question.specs.declared.reason.Reason.{Reason}
-use Rattle.ts_question.specs.declared.reason.Reason.TheVariants.{AnchorPurpose, Signature, TooEarly}
-use Rattle.ts_question.specs.declared.reason.Reason.TheVariants.{Expired, Revoked, Undetermined}
-use Rattle.ts_question.specs.declared.reason.Reason.TheVariants.{IssuerName, UnsupportedConstraint}
-use Rattle.ts_question.specs.declared.reason.Reason.TheVariants.{NotPermitted, Excluded}
-use Rattle.ts_question.specs.declared.reason.Reason.TheVariants.{PolicyRequired, MapsAny, NotCa}
-use Rattle.ts_question.specs.declared.reason.Reason.TheVariants.{PathLength, KeyUsage}
-use Rattle.ts_question.specs.declared.reason.Reason.TheVariants.{CriticalExtension, FinalPolicy}
-use Rattle.ts_question.specs.declared.reason.Reason.TheVariants.{Purpose}
+use Rattle.ts_reason.specs.Octets.{reason_at}
 use Rattle.ts_question.specs.declared.reply.Reply.{Reply}
 use Rattle.ts_question.specs.declared.reply.Reply.TheVariants.{Valid, Invalid, Found, NoPath}
 use Rattle.ts_question.specs.declared.reply.Reply.TheVariants.{SearchLimit, NotYet, Malformed}
 use Rattle.ts_question.specs.declared.reply.Reply.TheVariants.{NoAnchor, Limit, Page}
 use Rattle.ts_question.specs.QuestionReading.{subtrees_at}
-use Rattle.ts_question.specs.Reply.{Answered, answered, are_places, is_place}
+use Rattle.ts_question.specs.Reply.{NumberedReply, numbered_reply, are_places, is_place}
 
 unfoldable pub accepted_at : Reader (List (List ℕ))
 accepted_at = number_at w32 then many_at oid_at
-
--- what each reason says beside its number
-abbrev pub reasons : List (ℕ × Reader Reason)
-reasons = (1, bare AnchorPurpose) ∷ (2, bare Signature) ∷ (3, bare TooEarly) ∷ (4, bare Expired)
-    ∷ (5, octet_at into Revoked) ∷ (6, bare Undetermined) ∷ (7, bare IssuerName)
-    ∷ (8, bare UnsupportedConstraint) ∷ (9, bare NotPermitted) ∷ (10, bare Excluded)
-    ∷ (11, bare PolicyRequired) ∷ (12, bare MapsAny) ∷ (13, bare NotCa) ∷ (14, bare PathLength)
-    ∷ (15, bare KeyUsage) ∷ (16, oid_at into CriticalExtension) ∷ (17, bare FinalPolicy)
-    ∷ (18, bare Purpose) ∷ []
-
-unfoldable pub reason_at : Reader Reason
-reason_at = by_kind reasons
 
 unfoldable pub valid_at : Reader Reply
 valid_at = octets_at 32 and accepted_at into (λ x. Valid x.0 x.1)
@@ -61,5 +41,5 @@ replies k = (1, valid_at) ∷ (2, invalid_at) ∷ (3, found_at) ∷ (4, bare NoP
     ∷ (5, bare SearchLimit) ∷ (6, not_yet_at k) ∷ (7, malformed_at) ∷ (8, bare NoAnchor)
     ∷ (9, tag_at 1 into (λ o. Limit)) ∷ (10, page_at) ∷ []
 
-unfoldable pub answer_at : Reader Answered
-answer_at = prefix_at then (λ k. by_kind (replies k) into answered k)
+unfoldable pub answer_at : Reader NumberedReply
+answer_at = prefix_at then (λ k. by_kind (replies k) into numbered_reply k)

@@ -3,7 +3,7 @@
 ghost use Rattle.std.specs.Prelude.{◌≡◌, ◌++◌, true, false, Some, IfOk, IfSome, OnOk, MatchResult};
 ghost use Rattle.ts_codec.specs.Reading.{Gives};
 ghost use Rattle.ts_question.specs.ReplyReading.{answer_at};
-ghost use Rattle.ts_question.specs.Reply.{Answered, is_answer, encoding, Fits};
+ghost use Rattle.ts_question.specs.Reply.{NumberedReply, is_answer, answer_encoding, AnswerFits};
 
 use crate::question::OutOfLimits;
 use crate::ranges::{fields_fit, is_reply};
@@ -23,8 +23,9 @@ impl Answer {
     /// `NotYet` is not below k, there are 2^32 policies, or the rows of a page are more than 64 or
     /// longer than 65,535 octets.
     pub fn new(k: u32, reply: Reply) -> Result<Answer, OutOfLimits>
-        ensures { let answered : Answered = record { k = k; reply = reply } in
-            MatchResult result (λ a. (a ≡ answered) × Fits a) (λ _. is_answer answered ≡ false) }
+        ensures { let answered : NumberedReply = record { k = k; reply = reply } in
+            MatchResult result (λ a. (a ≡ answered) × AnswerFits a) (λ _. is_answer answered
+            ≡ false) }
     {
         if !(k <= MAX_POSITION && is_reply(k, &reply)) {
             return Err(OutOfLimits);
@@ -44,7 +45,7 @@ impl Answer {
     /// The reply.
     pub fn reply(&self) -> &Reply
         ensures reply { result.now ≡ self.now.reply }
-        ensures fits { Fits self.now }
+        ensures fits { AnswerFits self.now }
     {
         &self.reply
     }
@@ -64,9 +65,9 @@ impl Answer {
     pub fn read(alloc: Global, octets: &[u8]) -> Result<Option<Answer>, AllocError>
         // The octets are the encoding of the answer that is read.
         ensures found { IfOk result (λ read. IfSome read
-            (λ a. Fits a × (octets.now ≡ encoding a))) }
+            (λ a. AnswerFits a × (octets.now ≡ answer_encoding a))) }
         // Octets that encode an answer are read as it.
-        ensures only { (a : Answered) → Fits a → octets.now ≡ encoding a
+        ensures only { (a : NumberedReply) → AnswerFits a → octets.now ≡ answer_encoding a
             → IfOk result (λ read. read ≡ Some a) }
     {
         match reply_reading::whole_answer(alloc, octets) {
@@ -94,8 +95,8 @@ impl Answer {
     ///
     /// Out of memory.
     pub fn write(&self, out: &mut Vec<u8>) -> Result<(), AllocError>
-        ensures encoded { OnOk result (out.new.items ≡ out.old.items ++ encoding self.now) }
-        ensures fits { Fits self.now }
+        ensures encoded { OnOk result (out.new.items ≡ out.old.items ++ answer_encoding self.now) }
+        ensures fits { AnswerFits self.now }
     {
         out.extend_from_slice(&self.k.to_be_bytes())?;
         out.push(tag_of(&self.reply))?;
@@ -109,7 +110,7 @@ impl Answer {
     ///
     /// Out of memory.
     pub fn octets(&self, alloc: Global) -> Result<Vec<u8>, AllocError>
-        ensures { IfOk result (λ octets. octets.items ≡ encoding self.now) }
+        ensures { IfOk result (λ octets. octets.items ≡ answer_encoding self.now) }
     {
         let mut octets = Vec::new(alloc);
         self.write(&mut octets)?;

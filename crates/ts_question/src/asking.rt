@@ -3,7 +3,8 @@
 ghost use Rattle.std.specs.Prelude.{◌≡◌, ◌++◌, ◌∷◌, true, false, map, Some, Ok, IfOk, IfSome, OnOk};
 ghost use Rattle.std.specs.Prelude.{MatchResult};
 ghost use Rattle.ts_codec.specs.Reading.{whole};
-ghost use Rattle.ts_question.specs.Question.{Asked, is_within, encoding, Fits};
+ghost use Rattle.ts_question.specs.Question.{StoreQuestion, is_within, question_encoding};
+ghost use Rattle.ts_question.specs.Question.{QuestionFits};
 ghost use Rattle.ts_question.specs.QuestionReading.{question_at};
 ghost use Rattle.ts_question.specs.declared.question.Target.TheVariants.{Chain, Search, Store, Log};
 
@@ -17,9 +18,9 @@ use std::alloc::{AllocError, Global};
 use ts_codec::ReadFault;
 
 /// The question, if it is within its limits.
-fn checked(terms: Terms, target: Target) -> Result<Question, OutOfLimits>
+fn question_within_limits(terms: Terms, target: Target) -> Result<Question, OutOfLimits>
     ensures { MatchResult result
-        (λ q. (q ≡ record { terms = terms; target = target }) × Fits q)
+        (λ q. (q ≡ record { terms = terms; target = target }) × QuestionFits q)
         (λ _. is_within (record { terms = terms; target = target }) ≡ false) }
 {
     if !(are_terms(&terms) && is_target(&target)) {
@@ -42,16 +43,16 @@ impl Question {
         anchor: [u8; 32],
         certificates: Vec<Vec<u8>>,
     ) -> Result<Question, OutOfLimits>
-        ensures { let asked : Asked = record
+        ensures { let asked : StoreQuestion = record
             { terms = terms; target = Chain anchor (map (λ c. c.items) certificates.items) } in
-            MatchResult result (λ q. (q ≡ asked) × Fits q) (λ _. is_within asked ≡ false) }
+            MatchResult result (λ q. (q ≡ asked) × QuestionFits q) (λ _. is_within asked ≡ false) }
     {
         let certificates = OctetStrings::new(certificates);
         let target = Target::Chain {
             anchor,
             certificates,
         };
-        checked(terms, target)
+        question_within_limits(terms, target)
     }
 
     /// Whether there is a valid chain to the first certificate, the leaf, through others, the pool.
@@ -60,28 +61,28 @@ impl Question {
     ///
     /// `OutOfLimits` exactly where the question is outside its limits.
     pub fn search(terms: Terms, certificates: Vec<Vec<u8>>) -> Result<Question, OutOfLimits>
-        ensures { let asked : Asked = record
+        ensures { let asked : StoreQuestion = record
             { terms = terms; target = Search (map (λ c. c.items) certificates.items) } in
-            MatchResult result (λ q. (q ≡ asked) × Fits q) (λ _. is_within asked ≡ false) }
+            MatchResult result (λ q. (q ≡ asked) × QuestionFits q) (λ _. is_within asked ≡ false) }
     {
         let certificates = OctetStrings::new(certificates);
-        checked(terms, Target::Search { certificates })
+        question_within_limits(terms, Target::Search { certificates })
     }
 
     /// A page of what the store holds, after so many rows. Of the terms k alone counts.
     pub fn store(terms: Terms, from: u32) -> Result<Question, OutOfLimits>
-        ensures { let asked : Asked = record { terms = terms; target = Store from } in
-            MatchResult result (λ q. (q ≡ asked) × Fits q) (λ _. is_within asked ≡ false) }
+        ensures { let asked : StoreQuestion = record { terms = terms; target = Store from } in
+            MatchResult result (λ q. (q ≡ asked) × QuestionFits q) (λ _. is_within asked ≡ false) }
     {
-        checked(terms, Target::Store { from })
+        question_within_limits(terms, Target::Store { from })
     }
 
     /// A page of the commands that the store took, after so many rows. Of the terms k alone counts.
     pub fn log(terms: Terms, from: u32) -> Result<Question, OutOfLimits>
-        ensures { let asked : Asked = record { terms = terms; target = Log from } in
-            MatchResult result (λ q. (q ≡ asked) × Fits q) (λ _. is_within asked ≡ false) }
+        ensures { let asked : StoreQuestion = record { terms = terms; target = Log from } in
+            MatchResult result (λ q. (q ≡ asked) × QuestionFits q) (λ _. is_within asked ≡ false) }
     {
-        checked(terms, Target::Log { from })
+        question_within_limits(terms, Target::Log { from })
     }
 
     /// What is asked beside the target.
@@ -94,7 +95,7 @@ impl Question {
     /// What is asked for.
     pub fn target(&self) -> &Target
         ensures target { result.now ≡ self.now.target }
-        ensures fits { Fits self.now }
+        ensures fits { QuestionFits self.now }
     {
         &self.target
     }
@@ -109,9 +110,9 @@ impl Question {
         ensures exact { IfOk result (λ read. read ≡ whole (question_at octets.now)) }
         // The octets are the encoding of the question that is read.
         ensures found { IfOk result (λ read. IfSome read
-            (λ q. Fits q × (octets.now ≡ encoding q))) }
+            (λ q. QuestionFits q × (octets.now ≡ question_encoding q))) }
         // Octets that encode a question are read as it.
-        ensures only { (q : Asked) → Fits q → octets.now ≡ encoding q
+        ensures only { (q : StoreQuestion) → QuestionFits q → octets.now ≡ question_encoding q
             → IfOk result (λ read. read ≡ Some q) }
     {
         match reading::question(alloc, octets) {
@@ -127,8 +128,9 @@ impl Question {
     ///
     /// Out of memory.
     pub fn write(&self, out: &mut Vec<u8>) -> Result<(), AllocError>
-        ensures encoded { OnOk result (out.new.items ≡ out.old.items ++ encoding self.now) }
-        ensures fits { Fits self.now }
+        ensures encoded { OnOk result
+            (out.new.items ≡ out.old.items ++ question_encoding self.now) }
+        ensures fits { QuestionFits self.now }
     {
         out.push(kind_of(&self.target))?;
         push_terms(out, &self.terms)?;
@@ -142,7 +144,7 @@ impl Question {
     ///
     /// Out of memory.
     pub fn octets(&self, alloc: Global) -> Result<Vec<u8>, AllocError>
-        ensures { IfOk result (λ octets. octets.items ≡ encoding self.now) }
+        ensures { IfOk result (λ octets. octets.items ≡ question_encoding self.now) }
     {
         let mut octets = Vec::new(alloc);
         self.write(&mut octets)?;

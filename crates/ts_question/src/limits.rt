@@ -2,7 +2,7 @@
 
 ghost use Rattle.std.specs.Prelude.{◌≡◌, nat_le, nat_lt, true, length};
 ghost use Rattle.std.specs.List.{list_all};
-ghost use Rattle.ts_question.specs.Question.{is_position, are_subtrees, are_terms};
+ghost use Rattle.ts_question.specs.Question.{is_position_if_any, are_subtrees, are_terms};
 ghost use Rattle.ts_question.specs.Question.{are_certificates, is_target, TermsFit, TargetFits};
 
 use crate::lists::OctetStrings;
@@ -30,7 +30,7 @@ fn are_short(strings: &OctetStrings, most: usize) -> bool
 
 /// Whether a position of the store is absent or at most 1,000,000.
 fn is_position(k: Option<u32>) -> bool
-    ensures { result ≡ is_position k }
+    ensures { result ≡ is_position_if_any k }
 {
     match k {
         Some(k) => k <= MAX_POSITION,

@@ -42,11 +42,11 @@ pub struct Question {
 }
 
 impl Model for Question {
-    ghost use Rattle.ts_question.specs.Question.{Asked, Fits};
+    ghost use Rattle.ts_question.specs.Question.{StoreQuestion, QuestionFits};
 
-    ghost Value = { Asked };
+    ghost Value = { StoreQuestion };
 
     ghost view = { λ q. record { terms = q.terms; target = q.target } };
 
-    ghost invariant = { λ q. Fits (record { terms = q.terms; target = q.target }) };
+    ghost invariant = { λ q. QuestionFits (record { terms = q.terms; target = q.target }) };
 }

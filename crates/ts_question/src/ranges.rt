@@ -3,12 +3,11 @@
 ghost use Rattle.std.specs.Prelude.{◌≡◌, ◌==◌, ◌-◌, ◌<◌, length, slice_index, true};
 ghost use Rattle.std.specs.List.{list_any};
 ghost use Rattle.ts_question.specs.Reply.{is_distinct, are_places, are_countable, is_place};
-ghost use Rattle.ts_question.specs.Reply.{is_reply, DetailFits, FieldsFit};
+ghost use Rattle.ts_question.specs.Reply.{is_reply, ReplyFieldsFit};
 
 use crate::limits::{are_subtrees, fits_four_octets};
 use crate::lists::Oids;
 use crate::reading::MAX_CHAIN;
-use crate::reason::Reason;
 use crate::reply::Reply;
 
 /// The most places: their number is an octet.
@@ -94,25 +93,16 @@ fn is_digest(digest: [u8; 32])
     ensures { length digest ≡ 32 }
 {}
 
-/// The detail of a reason has an encoding.
-fn detail_fits(reason: &Reason)
-    ensures { DetailFits reason.now }
-{
-    if let Reason::CriticalExtension(oid) = reason {
-        let _ = oid.as_ref();
-    }
-}
-
 /// Each reply whose fields are in their ranges has an encoding.
 pub(crate) fn fields_fit(reply: &Reply)
-    ensures { FieldsFit reply.now }
+    ensures { ReplyFieldsFit reply.now }
 {
     match reply {
         Reply::Valid { anchor, policies } => {
             is_digest(*anchor);
             let _ = policies.as_slice();
         }
-        Reply::Invalid { reason, .. } => detail_fits(reason),
+        Reply::Invalid { reason, .. } => reason.has_encoding(),
         Reply::Found {
             anchor,
             policies,

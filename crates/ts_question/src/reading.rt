@@ -3,7 +3,7 @@
 ghost use Rattle.std.specs.Prelude.{◌≡◌, ◌<◌};
 ghost use Rattle.ts_codec.specs.Reading.{Gives, whole, many_at, optional_at, blob16_at};
 ghost use Rattle.ts_codec.specs.Reading.{short_blob_at, prefix_at, oid_at, of_kind};
-ghost use Rattle.ts_question.specs.Question.{Asked};
+ghost use Rattle.ts_question.specs.Question.{StoreQuestion};
 ghost use Rattle.ts_question.specs.QuestionReading.{bit, presence_at, policies_at, subtrees_at};
 ghost use Rattle.ts_question.specs.QuestionReading.{certificates_at, terms_at, targets};
 ghost use Rattle.ts_question.specs.QuestionReading.{question_at};
@@ -14,7 +14,7 @@ use crate::terms::{Flags, Presence, Terms};
 use std::alloc::Global;
 use ts_codec::ReadFault;
 use ts_codec::reading::{
-    blob16, digest, number16, number32, octet, oid, oids, prefix, short_blob, signed,
+    blob16, digest, number16, number32, octet, oid, oids, prefix, short_blob, signed_number,
 };
 use ts_der::Oid;
 
@@ -175,7 +175,7 @@ fn certificates(
 fn terms(alloc: Global, octets: &[u8]) -> Result<(Terms, &[u8]), ReadFault>
     ensures { Gives (λ x. (x.0, x.1.now)) result (terms_at octets.now) }
 {
-    let (moment, rest) = signed(octets)?;
+    let (moment, rest) = signed_number(octets)?;
     let (presence, rest) = presence(rest)?;
     let (k, rest) = optional_position(presence.k, rest)?;
     let (purpose, rest) = optional_oid(alloc, presence.purpose, rest)?;

@@ -1,8 +1,9 @@
 //! Replies.
 
 use crate::lists::{OctetStrings, Oids, Places};
-use crate::reason::Reason;
 use std::marker::Model;
+use ts_der::Oid;
+use ts_reason::Reason;
 
 /// What a node replies to a question.
 #[derive(Debug, Drop)]
@@ -16,7 +17,7 @@ pub enum Reply {
     Invalid {
         /// The certificate's position in the chain, counted from 1, the anchor's side.
         position: u8,
-        reason: Reason,
+        reason: Reason<Oid>,
     },
     /// This chain is valid.
     Found {
@@ -68,11 +69,11 @@ pub struct Answer {
 }
 
 impl Model for Answer {
-    ghost use Rattle.ts_question.specs.Reply.{Answered, Fits};
+    ghost use Rattle.ts_question.specs.Reply.{NumberedReply, AnswerFits};
 
-    ghost Value = { Answered };
+    ghost Value = { NumberedReply };
 
     ghost view = { λ a. record { k = a.k; reply = a.reply } };
 
-    ghost invariant = { λ a. Fits (record { k = a.k; reply = a.reply }) };
+    ghost invariant = { λ a. AnswerFits (record { k = a.k; reply = a.reply }) };
 }

@@ -2,72 +2,28 @@
 
 ghost use Rattle.std.specs.Prelude.{◌≡◌};
 ghost use Rattle.ts_codec.specs.Reading.{Gives, ◌into◌, whole, by_kind, of_kind};
-ghost use Rattle.ts_question.specs.Reply.{answered};
-ghost use Rattle.ts_question.specs.ReplyReading.{reasons, accepted_at, reason_at, valid_at};
-ghost use Rattle.ts_question.specs.ReplyReading.{invalid_at, found_at, not_yet_at, malformed_at};
-ghost use Rattle.ts_question.specs.ReplyReading.{page_at, replies, answer_at};
+ghost use Rattle.ts_question.specs.Reply.{numbered_reply};
+ghost use Rattle.ts_question.specs.ReplyReading.{accepted_at, valid_at, invalid_at, found_at};
+ghost use Rattle.ts_question.specs.ReplyReading.{not_yet_at, malformed_at, page_at, replies};
+ghost use Rattle.ts_question.specs.ReplyReading.{answer_at};
 
 use crate::lists::{Oids, Places};
 use crate::ranges::{are_places, is_place};
 use crate::reading::subtrees;
-use crate::reason::Reason;
 use crate::reply::Reply;
 use std::alloc::Global;
 use ts_codec::ReadFault;
-use ts_codec::reading::{blob8, digest, number32, octet, oid, oids, prefix, tag};
+use ts_codec::reading::{blob8, digest, number32, octet, oids, prefix, tag};
+use ts_reason::read_reason;
 
 /// The accepted policies, and what follows them.
 #[tactic(auto, unfolding(crate::specs::ReplyReading::accepted_at))]
-fn accepted(alloc: Global, octets: &[u8]) -> Result<(Oids, &[u8]), ReadFault>
+fn accepted_policies(alloc: Global, octets: &[u8]) -> Result<(Oids, &[u8]), ReadFault>
     ensures { Gives (λ x. (x.0, x.1.now)) result (accepted_at octets.now) }
 {
     let (count, rest) = number32(octets)?;
     let (oids, rest) = oids(alloc, count as usize, rest)?;
     Ok((Oids::new(oids), rest))
-}
-
-/// The reason of this number.
-#[tactic(auto, unfolding(ts_codec::specs::Reading::of_kind))]
-fn detail(alloc: Global, number: u8, octets: &[u8]) -> Result<(Reason, &[u8]), ReadFault>
-    ensures { Gives (λ x. (x.0, x.1.now)) result (of_kind reasons number octets.now) }
-{
-    match number {
-        1 => Ok((Reason::AnchorPurpose, octets)),
-        2 => Ok((Reason::Signature, octets)),
-        3 => Ok((Reason::TooEarly, octets)),
-        4 => Ok((Reason::Expired, octets)),
-        5 => {
-            let (code, rest) = octet(octets)?;
-            Ok((Reason::Revoked(code), rest))
-        }
-        6 => Ok((Reason::Undetermined, octets)),
-        7 => Ok((Reason::IssuerName, octets)),
-        8 => Ok((Reason::UnsupportedConstraint, octets)),
-        9 => Ok((Reason::NotPermitted, octets)),
-        10 => Ok((Reason::Excluded, octets)),
-        11 => Ok((Reason::PolicyRequired, octets)),
-        12 => Ok((Reason::MapsAny, octets)),
-        13 => Ok((Reason::NotCa, octets)),
-        14 => Ok((Reason::PathLength, octets)),
-        15 => Ok((Reason::KeyUsage, octets)),
-        16 => {
-            let (oid, rest) = oid(alloc, octets)?;
-            Ok((Reason::CriticalExtension(oid), rest))
-        }
-        17 => Ok((Reason::FinalPolicy, octets)),
-        18 => Ok((Reason::Purpose, octets)),
-        _ => Err(ReadFault::Form),
-    }
-}
-
-/// The reason for which a chain is invalid, and what follows it.
-#[tactic(auto, unfolding(crate::specs::ReplyReading::reason_at))]
-fn reason(alloc: Global, octets: &[u8]) -> Result<(Reason, &[u8]), ReadFault>
-    ensures { Gives (λ x. (x.0, x.1.now)) result (reason_at octets.now) }
-{
-    let (number, rest) = octet(octets)?;
-    let (reason, rest) = detail(alloc, number, rest)?;
-    Ok((reason, rest))
 }
 
 /// The reply that a chain is valid, from the fields after its tag, and what follows them.
@@ -76,7 +32,7 @@ fn valid(alloc: Global, octets: &[u8]) -> Result<(Reply, &[u8]), ReadFault>
     ensures { Gives (λ x. (x.0, x.1.now)) result (valid_at octets.now) }
 {
     let (anchor, rest) = digest(octets)?;
-    let (policies, rest) = accepted(alloc, rest)?;
+    let (policies, rest) = accepted_policies(alloc, rest)?;
     Ok((Reply::Valid { anchor, policies }, rest))
 }
 
@@ -90,14 +46,14 @@ fn invalid(alloc: Global, octets: &[u8]) -> Result<(Reply, &[u8]), ReadFault>
     if !is_place(position) {
         return Err(ReadFault::Form);
     }
-    let (reason, rest) = reason(alloc, rest)?;
+    let (reason, rest) = read_reason(alloc, rest)?;
     Ok((Reply::Invalid { position, reason }, rest))
 }
 
 /// The reply that a chain was found, from the fields after its tag, and what follows them. Places
 /// that can't be those of a chain are refused.
 #[tactic(auto, unfolding(crate::specs::ReplyReading::found_at))]
-fn found(alloc: Global, octets: &[u8]) -> Result<(Reply, &[u8]), ReadFault>
+fn found_reply(alloc: Global, octets: &[u8]) -> Result<(Reply, &[u8]), ReadFault>
     ensures { Gives (λ x. (x.0, x.1.now)) result (found_at octets.now) }
 {
     let (anchor, rest) = digest(octets)?;
@@ -106,7 +62,7 @@ fn found(alloc: Global, octets: &[u8]) -> Result<(Reply, &[u8]), ReadFault>
         return Err(ReadFault::Form);
     }
     let places = Places::new(Vec::from_slice(alloc, places)?);
-    let (policies, rest) = accepted(alloc, rest)?;
+    let (policies, rest) = accepted_policies(alloc, rest)?;
     let reply = Reply::Found {
         anchor,
         places,
@@ -131,7 +87,7 @@ fn not_yet(k: u32, octets: &[u8]) -> Result<(Reply, &[u8]), ReadFault>
 /// The reply that a part of the question can't be read, from the fields after its tag, and what
 /// follows them.
 #[tactic(auto, unfolding(crate::specs::ReplyReading::malformed_at))]
-fn malformed(octets: &[u8]) -> Result<(Reply, &[u8]), ReadFault>
+fn malformed_reply(octets: &[u8]) -> Result<(Reply, &[u8]), ReadFault>
     ensures { Gives (λ x. (x.0, x.1.now)) result (malformed_at octets.now) }
 {
     let (index, rest) = octet(octets)?;
@@ -164,11 +120,11 @@ fn fields(alloc: Global, k: u32, kind: u8, octets: &[u8]) -> Result<(Reply, &[u8
     match kind {
         1 => valid(alloc, octets),
         2 => invalid(alloc, octets),
-        3 => found(alloc, octets),
+        3 => found_reply(alloc, octets),
         4 => Ok((Reply::NoPath, octets)),
         5 => Ok((Reply::SearchLimit, octets)),
         6 => not_yet(k, octets),
-        7 => malformed(octets),
+        7 => malformed_reply(octets),
         8 => Ok((Reply::NoAnchor, octets)),
         9 => {
             let (_, rest) = tag(1, octets)?;
@@ -182,7 +138,7 @@ fn fields(alloc: Global, k: u32, kind: u8, octets: &[u8]) -> Result<(Reply, &[u8
 /// The answer at the front of octets.
 #[tactic(auto, unfolding(crate::specs::ReplyReading::answer_at))]
 pub(crate) fn answer(alloc: Global, octets: &[u8]) -> Result<(u32, Reply, &[u8]), ReadFault>
-    ensures { Gives (λ x. (answered x.0 x.1, x.2.now)) result (answer_at octets.now) }
+    ensures { Gives (λ x. (numbered_reply x.0 x.1, x.2.now)) result (answer_at octets.now) }
 {
     let (k, rest) = prefix(octets)?;
     let (kind, rest) = octet(rest)?;
@@ -192,7 +148,7 @@ pub(crate) fn answer(alloc: Global, octets: &[u8]) -> Result<(u32, Reply, &[u8])
 
 /// The answer that the octets are.
 pub(crate) fn whole_answer(alloc: Global, octets: &[u8]) -> Result<(u32, Reply), ReadFault>
-    ensures { Gives (λ x. answered x.0 x.1) result (whole (answer_at octets.now)) }
+    ensures { Gives (λ x. numbered_reply x.0 x.1) result (whole (answer_at octets.now)) }
 {
     let (k, reply, rest) = answer(alloc, octets)?;
     if !rest.is_empty() {

@@ -2,15 +2,14 @@
 
 ghost use Rattle.std.specs.Prelude.{◌≡◌, ◌++◌, true, ℕ, OnOk};
 ghost use Rattle.ts_codec.specs.Parts.{blob8};
-ghost use Rattle.ts_question.specs.Reply.{are_places, are_countable, is_reply, reason_encoding};
-ghost use Rattle.ts_question.specs.Reply.{accepted_encoding, tag_of, fields};
+ghost use Rattle.ts_question.specs.Reply.{are_places, are_countable, is_reply};
+ghost use Rattle.ts_question.specs.Reply.{accepted_encoding, tag_of, reply_fields};
 
 use crate::lists::{Oids, Places};
-use crate::reason::Reason;
 use crate::reply::Reply;
 use crate::writing::push_subtrees;
 use std::alloc::AllocError;
-use ts_codec::writing::{push_oid, push_oids};
+use ts_codec::writing::push_oids;
 
 /// Writes the number of the accepted policies, and the contents octets of each.
 fn push_accepted(out: &mut Vec<u8>, policies: &Oids) -> Result<(), AllocError>
@@ -20,19 +19,6 @@ fn push_accepted(out: &mut Vec<u8>, policies: &Oids) -> Result<(), AllocError>
     let policies = policies.as_slice();
     out.extend_from_slice(&(policies.len() as u32).to_be_bytes())?;
     push_oids(out, policies)
-}
-
-/// Writes the number of a reason, and its detail where it has one.
-fn push_reason(out: &mut Vec<u8>, reason: &Reason) -> Result<(), AllocError>
-    ensures { OnOk result (out.new.items ≡ out.old.items ++ reason_encoding reason.now) }
-{
-    out.push(reason.number())?;
-    match reason {
-        Reason::Revoked(code) => out.push(*code)?,
-        Reason::CriticalExtension(oid) => push_oid(out, oid)?,
-        _ => {}
-    }
-    Ok(())
 }
 
 /// Writes the number of places, and the places.
@@ -67,7 +53,7 @@ pub(crate) fn tag_of(reply: &Reply) -> u8
 /// Writes the fields of a reply after k commands.
 pub(crate) fn push_fields(out: &mut Vec<u8>, k: u32, reply: &Reply) -> Result<(), AllocError>
     requires { is_reply k reply.now ≡ true }
-    ensures { OnOk result (out.new.items ≡ out.old.items ++ fields reply.now) }
+    ensures { OnOk result (out.new.items ≡ out.old.items ++ reply_fields reply.now) }
 {
     match reply {
         Reply::Valid { anchor, policies } => {
@@ -76,7 +62,7 @@ pub(crate) fn push_fields(out: &mut Vec<u8>, k: u32, reply: &Reply) -> Result<()
         }
         Reply::Invalid { position, reason } => {
             out.push(*position)?;
-            push_reason(out, reason)?;
+            reason.write(out)?;
         }
         Reply::Found {
             anchor,

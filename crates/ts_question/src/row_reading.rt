@@ -2,15 +2,15 @@
 
 ghost use Rattle.std.specs.Prelude.{◌≡◌};
 ghost use Rattle.ts_codec.specs.Reading.{Gives, whole};
-ghost use Rattle.ts_question.specs.RowReading.{anchor_at, crl_at, command_at};
+ghost use Rattle.ts_question.specs.inside.RowReading.{anchor_at, crl_at, command_at};
 ghost use Rattle.ts_question.specs.RowView.{anchor_line, crl_line, command_line};
 
 use crate::rows::{AnchorRow, CommandRow, CrlRow};
 use ts_codec::ReadFault;
-use ts_codec::reading::{blob16, digest, id, number32, octet, signed, tag};
+use ts_codec::reading::{blob16, digest, id, number32, octet, signed_number, tag};
 
 /// The row of an anchor that begins here, and what follows it. Its strings are borrowed.
-#[tactic(auto, unfolding(crate::specs::RowReading::anchor_at))]
+#[tactic(auto, unfolding(crate::specs::inside::RowReading::anchor_at))]
 fn anchor(octets: &[u8]) -> Result<(AnchorRow<'_>, &[u8]), ReadFault>
     ensures { Gives (λ x. (anchor_line x.0, x.1.now)) result (anchor_at octets.now) }
 {
@@ -27,7 +27,7 @@ fn anchor(octets: &[u8]) -> Result<(AnchorRow<'_>, &[u8]), ReadFault>
 }
 
 /// The row of a CRL that begins here, and what follows it. Its strings are borrowed.
-#[tactic(auto, unfolding(crate::specs::RowReading::crl_at))]
+#[tactic(auto, unfolding(crate::specs::inside::RowReading::crl_at))]
 fn crl(octets: &[u8]) -> Result<(CrlRow<'_>, &[u8]), ReadFault>
     ensures { Gives (λ x. (crl_line x.0, x.1.now)) result (crl_at octets.now) }
 {
@@ -37,8 +37,8 @@ fn crl(octets: &[u8]) -> Result<(CrlRow<'_>, &[u8]), ReadFault>
     let (number, rest) = blob16(rest)?;
     let (base, rest) = blob16(rest)?;
     let (scope, rest) = blob16(rest)?;
-    let (this_update, rest) = signed(rest)?;
-    let (next_update, rest) = signed(rest)?;
+    let (this_update, rest) = signed_number(rest)?;
+    let (next_update, rest) = signed_number(rest)?;
     let (entries, rest) = number32(rest)?;
     let (size, rest) = number32(rest)?;
     let row = CrlRow {
@@ -56,7 +56,7 @@ fn crl(octets: &[u8]) -> Result<(CrlRow<'_>, &[u8]), ReadFault>
 }
 
 /// The row of a command that begins here, and what follows it. Its strings are borrowed.
-#[tactic(auto, unfolding(crate::specs::RowReading::command_at))]
+#[tactic(auto, unfolding(crate::specs::inside::RowReading::command_at))]
 fn command(octets: &[u8]) -> Result<(CommandRow<'_>, &[u8]), ReadFault>
     ensures { Gives (λ x. (command_line x.0, x.1.now)) result (command_at octets.now) }
 {

@@ -5,10 +5,11 @@ ghost use Rattle.std.specs.Prelude.{nat_le, is_some, true, OnOk};
 ghost use Rattle.std.specs.List.{flat_map, list_all};
 ghost use Rattle.ts_codec.specs.Parts.{blob8, blob16, blob32, optional};
 ghost use Rattle.std.specs.Int.{to_be_bytes, cast_unsigned, w32, w64};
-ghost use Rattle.ts_question.specs.Question.{flags_octet, is_position, are_subtrees, are_terms};
+ghost use Rattle.ts_question.specs.Question.{flags_octet, is_position_if_any, are_subtrees};
+ghost use Rattle.ts_question.specs.Question.{are_terms};
 ghost use Rattle.ts_question.specs.Question.{are_certificates, is_target, policies_encoding};
 ghost use Rattle.ts_question.specs.Question.{subtrees_encoding, certificates_encoding};
-ghost use Rattle.ts_question.specs.Question.{terms_encoding, kind_of, target_encoding};
+ghost use Rattle.ts_question.specs.Question.{terms_encoding, question_kind, target_encoding};
 
 use crate::lists::{OctetStrings, Oids};
 use crate::question::Target;
@@ -155,7 +156,7 @@ pub(crate) fn push_terms(out: &mut Vec<u8>, terms: &Terms) -> Result<(), AllocEr
 
 /// The kind of a question.
 pub(crate) fn kind_of(target: &Target) -> u8
-    ensures { result ≡ kind_of target.now }
+    ensures { result ≡ question_kind target.now }
 {
     match target {
         Target::Chain { .. } => 1,

@@ -1,5 +1,7 @@
 -- The facts that a rewrite copies are of the force of all.
-use Rattle.std.proofs.Common.{◌≡◌, ◌≢◌, ◌⊎◌, inl, inr, ⊎_elim, ◌≤◌, ◌<◌, ◌+◌, ℕ, zero, suc, max, true, false, Bool, List, [], ◌∷◌, ◌++◌, Option, Some, None, ◌==◌, nat_lt, if◌then◌else◌, refl, sym, ◌∙◌, ap, subst, arith}
+use Rattle.std.proofs.Common.{◌≡◌, ◌≢◌, ◌⊎◌, inl, inr, ⊎_elim, ◌≤◌, ◌<◌, ◌+◌, ℕ, zero, suc, max}
+use Rattle.std.proofs.Common.{true, false, Bool, List, [], ◌∷◌, ◌++◌, Option, Some, None, ◌==◌}
+use Rattle.std.proofs.Common.{nat_lt, if◌then◌else◌, refl, sym, ◌∙◌, ap, subst, arith}
 use Rattle.std.proofs.lemmas.Bool.Decides.{Decides-eqb, nat_tests}
 use Rattle.ts_synod.specs.Force.{SameForce, used_round, greater_vote, first_some, taken_vote, vote_at, learned_command, command_at, promised_ballot, ballot_at}
 use Rattle.ts_synod.proofs.Sets.{by_test}
@@ -7,7 +9,7 @@ use Rattle.ts_synod.proofs.Same.{greater_assoc}
 use Rattle.ts_synod.specs.declared.message.Fact.{Fact}
 use Rattle.ts_synod.specs.declared.message.Fact.TheVariants.{Used, Promised, Took, Chosen}
 use Rattle.ts_synod.specs.declared.message.Vote.{Vote}
-use Rattle.ts_record.specs.Compacted.{position_of, last_position, promise_at, greatest_promise, used_fact, promise_fact, vote_fact, learned_fact, facts_at, facts_from, compacted}
+use Rattle.ts_record.specs.Compacted.{position_of, last_fact_position, promise_at, greatest_promise, used_fact, promise_fact, vote_fact, learned_fact, facts_at, facts_from, compact}
 use Rattle.ts_record.proofs.Places.{yes, no, vote_none, first_none}
 
 -- the force of facts at p, and the greatest round
@@ -21,7 +23,11 @@ first_assoc : {A : Type 0} (x y z : Option A) → first_some (first_some x y) z 
 first_assoc None y z = refl
 first_assoc (Some x) y z = refl
 
-both : {C : Type 0} (p : ℕ) (fs gs : List (Fact C)) → Sees p (fs ++ gs) (max (used_round fs) (used_round gs)) (max (promised_ballot p fs) (promised_ballot p gs)) (greater_vote (taken_vote p fs) (taken_vote p gs)) (first_some (learned_command p fs) (learned_command p gs))
+both : {C : Type 0} (p : ℕ) (fs gs : List (Fact C))
+    → Sees p (fs ++ gs) (max (used_round fs) (used_round gs))
+    (max (promised_ballot p fs) (promised_ballot p gs))
+    (greater_vote (taken_vote p fs) (taken_vote p gs))
+    (first_some (learned_command p fs) (learned_command p gs))
 both p [] gs = record { used = omega arith; promised = omega arith; taken = refl; learned = refl }
 both p (f ∷ fs) gs = let h = both p fs gs in let hu = h.used in let hp = h.promised in record {
   used = omega (arith, hu);
@@ -30,7 +36,9 @@ both p (f ∷ fs) gs = let h = both p fs gs in let hu = h.used in let hp = h.pro
   learned = ap (first_some (command_at p f)) h.learned ∙ sym (first_assoc (command_at p f) (learned_command p fs) (learned_command p gs));
 }
 
-join : {C : Type 0} (p : ℕ) (fs gs : List (Fact C)) (r q b d : ℕ) (v w : Option (Vote C)) (c e : Option C) → Sees p fs r b v c → Sees p gs q d w e → Sees p (fs ++ gs) (max r q) (max b d) (greater_vote v w) (first_some c e)
+join : {C : Type 0} (p : ℕ) (fs gs : List (Fact C)) (r q b d : ℕ) (v w : Option (Vote C))
+    (c e : Option C) → Sees p fs r b v c → Sees p gs q d w e
+    → Sees p (fs ++ gs) (max r q) (max b d) (greater_vote v w) (first_some c e)
 join p fs gs r q b d v w c e x y = let h = both p fs gs in let hu = h.used in let hp = h.promised in record {
   used = omega (arith, hu, x.used, y.used);
   promised = omega (arith, hp, x.promised, y.promised);
@@ -140,7 +148,11 @@ inside : {C : Type 0} (p from n : ℕ) (fs : List (Fact C)) → from ≤ p → p
 inside p from zero fs low high = absurd (omega (arith, low, high))
 inside {C} p from (suc n) fs low high = go (λ l h. inside p (suc from) n fs l h) (from == p) refl
   where
-    go : (suc from ≤ p → p < suc from + n → Sees p (facts_from (suc from) n fs) 0 (promised_ballot p fs) (taken_vote p fs) (learned_command p fs)) → (t : Bool) → (from == p) ≡ t → Sees p (facts_from from (suc n) fs) 0 (promised_ballot p fs) (taken_vote p fs) (learned_command p fs)
+    go : (suc from ≤ p → p < suc from + n
+        → Sees p (facts_from (suc from) n fs) 0 (promised_ballot p fs) (taken_vote p fs)
+        (learned_command p fs)) → (t : Bool) → (from == p) ≡ t
+        → Sees p (facts_from from (suc n) fs) 0 (promised_ballot p fs) (taken_vote p fs)
+        (learned_command p fs)
     go more true e = let same : from ≡ p = (Decides-eqb from p).0 e in
         before_nothing p (facts_at from fs) (facts_from (suc from) n fs) (promised_ballot p fs) (taken_vote p fs) (learned_command p fs)
         (subst (λ k. Sees p (facts_at k fs) 0 (promised_ballot p fs) (taken_vote p fs) (learned_command p fs)) (sym same) (at_here p fs))
@@ -156,7 +168,7 @@ past_one p (Promised q b) le = (no q p b 0 (λ e. omega (arith, le, e)), refl, r
 past_one p (Took q b c) le = (no q p b 0 (λ e. omega (arith, le, e)), no q p _ None (λ e. omega (arith, le, e)), refl)
 past_one p (Chosen q c) le = (refl, refl, no q p _ None (λ e. omega (arith, le, e)))
 
-past : {C : Type 0} (p : ℕ) (fs : List (Fact C)) → last_position fs < p → (promised_ballot p fs ≡ 0) × (taken_vote p fs ≡ None) × (learned_command p fs ≡ None)
+past : {C : Type 0} (p : ℕ) (fs : List (Fact C)) → last_fact_position fs < p → (promised_ballot p fs ≡ 0) × (taken_vote p fs ≡ None) × (learned_command p fs ≡ None)
 past p [] le = (refl, refl, refl)
 past p (f ∷ fs) le =
     let one = past_one p f (omega (arith, le)) in
@@ -168,22 +180,24 @@ used_here {C} p r = by_test (λ (fs : List (Fact C)). Sees p fs r 0 None None) (
     (λ e. let z : r ≡ 0 = (Decides-eqb r 0).0 e in record { used = sym z; promised = refl; taken = refl; learned = refl })
     (λ e. record { used = omega arith; promised = omega arith; taken = refl; learned = refl })
 
-positions : {C : Type 0} (p : ℕ) (fs : List (Fact C)) → Sees p (facts_from 0 (suc (last_position fs)) fs) 0 (promised_ballot p fs) (taken_vote p fs) (learned_command p fs)
-positions {C} p fs = go (nat_lt (last_position fs) p) refl
+positions : {C : Type 0} (p : ℕ) (fs : List (Fact C)) → Sees p (facts_from 0 (suc (last_fact_position fs)) fs) 0 (promised_ballot p fs) (taken_vote p fs) (learned_command p fs)
+positions {C} p fs = go (nat_lt (last_fact_position fs) p) refl
   where
-    go : (t : Bool) → nat_lt (last_position fs) p ≡ t → Sees p (facts_from 0 (suc (last_position fs)) fs) 0 (promised_ballot p fs) (taken_vote p fs) (learned_command p fs)
+    go : (t : Bool) → nat_lt (last_fact_position fs) p ≡ t → Sees p (facts_from 0 (suc (last_fact_position fs)) fs) 0 (promised_ballot p fs) (taken_vote p fs) (learned_command p fs)
     go true e =
-        let le : last_position fs < p = grind (arith, nat_tests) in
-        let out = outside p 0 (suc (last_position fs)) fs (inr (omega (arith, le))) in
+        let le : last_fact_position fs < p = grind (arith, nat_tests) in
+        let out = outside p 0 (suc (last_fact_position fs)) fs (inr (omega (arith, le))) in
         let gone = past p fs le in
         record { used = out.used; promised = out.promised ∙ sym gone.0; taken = out.taken ∙ sym gone.1; learned = out.learned ∙ sym gone.2 }
-    go false e = let le : p ≤ last_position fs = grind (arith, nat_tests) in inside p 0 (suc (last_position fs)) fs (omega arith) (omega (arith, le))
+    go false e = let le : p ≤ last_fact_position fs = grind (arith, nat_tests) in inside p 0 (suc (last_fact_position fs)) fs (omega arith) (omega (arith, le))
 
-compacted_sees : {C : Type 0} (p : ℕ) (fs : List (Fact C)) → Sees p (compacted fs) (used_round fs) (promised_ballot p fs) (taken_vote p fs) (learned_command p fs)
+compacted_sees : {C : Type 0} (p : ℕ) (fs : List (Fact C)) → Sees p (compact fs) (used_round fs) (promised_ballot p fs) (taken_vote p fs) (learned_command p fs)
 compacted_sees p fs =
-    let j = join p (used_fact (used_round fs)) (facts_from 0 (suc (last_position fs)) fs) (used_round fs) 0 0 (promised_ballot p fs) None (taken_vote p fs) None (learned_command p fs) (used_here p (used_round fs)) (positions p fs) in
+    let j = join p (used_fact (used_round fs)) (facts_from 0 (suc (last_fact_position fs)) fs)
+    (used_round fs) 0 0 (promised_ballot p fs) None (taken_vote p fs) None
+    (learned_command p fs) (used_here p (used_round fs)) (positions p fs) in
     record { used = omega (arith, j.used); promised = omega (arith, j.promised); taken = j.taken; learned = j.learned }
 
 -- what is copied has the force of all
-pub same_force : {C : Type 0} (fs : List (Fact C)) → SameForce (compacted fs) fs
+pub same_force : {C : Type 0} (fs : List (Fact C)) → SameForce (compact fs) fs
 same_force fs = record { used = (compacted_sees 0 fs).used; promised = λ p. (compacted_sees p fs).promised; taken = λ p. (compacted_sees p fs).taken; learned = λ p. (compacted_sees p fs).learned }

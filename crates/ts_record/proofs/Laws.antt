@@ -3,7 +3,7 @@ use Rattle.std.proofs.Common.{◌==◌, false, zero, suc, ◌≡◌, ◌≢◌, 
 use Rattle.std.proofs.lemmas.List.{append-nil, drop_at, take_at}
 use Rattle.std.proofs.lemmas.Grind.{flat_map-append}
 use Rattle.std.specs.Int.{to_be_bytes, w64}
-use Rattle.ts_record.specs.Facts.{blob, encoding, encodings, IsPosition, IsBallot, IsBlob, Fits, AllFit, NoFact}
+use Rattle.ts_record.specs.Facts.{blob, fact_encoding, encodings, IsPosition, IsBallot, IsBlob, FactFits, AllFit, NoFact}
 use Rattle.ts_synod.specs.declared.message.Fact.{Fact}
 use Rattle.ts_synod.specs.declared.message.Fact.TheVariants.{Used, Promised, Took, Chosen}
 use Rattle.ts_journal.proofs.Blocks.{one4}
@@ -16,21 +16,26 @@ pub record ReadSoFar {C : Type 0} (octets : C → List ℕ) (before facts : List
   pub split : body ≡ encodings octets more ++ rest
   pub kept : facts ≡ before ++ more
 
-fit_push : {C : Type 0} (octets : C → List ℕ) (facts : List (Fact C)) (fact : Fact C) → AllFit octets facts → Fits octets fact → AllFit octets (facts ++ fact ∷ [])
+fit_push : {C : Type 0} (octets : C → List ℕ) (facts : List (Fact C)) (fact : Fact C) → AllFit octets facts → FactFits octets fact → AllFit octets (facts ++ fact ∷ [])
 fit_push octets [] fact fit last = (last, tt)
 fit_push octets (f ∷ facts) fact fit last = (fit.0, fit_push octets facts fact fit.1 last)
 
-encodings_push : {C : Type 0} (octets : C → List ℕ) (facts : List (Fact C)) (fact : Fact C) → encodings octets (facts ++ fact ∷ []) ≡ encodings octets facts ++ encoding octets fact
-encodings_push octets facts fact = flat_map-append (encoding octets) facts (fact ∷ []) ∙ ap (λ l. encodings octets facts ++ l) (append-nil (encoding octets fact))
+encodings_push : {C : Type 0} (octets : C → List ℕ) (facts : List (Fact C)) (fact : Fact C) → encodings octets (facts ++ fact ∷ []) ≡ encodings octets facts ++ fact_encoding octets fact
+encodings_push octets facts fact = flat_map-append (fact_encoding octets) facts (fact ∷ []) ∙ ap (λ l. encodings octets facts ++ l) (append-nil (fact_encoding octets fact))
 
 pub starts : {C : Type 0} (octets : C → List ℕ) (before : List (Fact C)) (body : List ℕ) → ReadSoFar octets before before body body
 starts octets before body = record { more = []; fit = tt; split = refl; kept = sym (append-nil before) }
 
-pub one_more : {C : Type 0} (octets : C → List ℕ) (before facts later : List (Fact C)) (body rest after : List ℕ) (fact : Fact C) → ReadSoFar octets before facts body rest → Fits octets fact → rest ≡ encoding octets fact ++ after → later ≡ facts ++ fact ∷ [] → ReadSoFar octets before later body after
+pub one_more : {C : Type 0} (octets : C → List ℕ) (before facts later : List (Fact C))
+    (body rest after : List ℕ) (fact : Fact C) → ReadSoFar octets before facts body rest
+    → FactFits octets fact → rest ≡ fact_encoding octets fact ++ after → later ≡ facts ++ fact ∷ []
+    → ReadSoFar octets before later body after
 one_more octets before facts later body rest after fact so_far fits is kept = record {
   more = so_far.more ++ fact ∷ [];
   fit = fit_push octets so_far.more fact so_far.fit fits;
-  split = so_far.split ∙ ap (λ l. encodings octets so_far.more ++ l) is ∙ sym (append_assoc (encodings octets so_far.more) (encoding octets fact) after) ∙ ap (λ l. l ++ after) (sym (encodings_push octets so_far.more fact));
+  split = so_far.split ∙ ap (λ l. encodings octets so_far.more ++ l) is
+      ∙ sym (append_assoc (encodings octets so_far.more) (fact_encoding octets fact) after)
+      ∙ ap (λ l. l ++ after) (sym (encodings_push octets so_far.more fact));
   kept = kept ∙ ap (λ l. l ++ fact ∷ []) so_far.kept ∙ append_assoc before so_far.more (fact ∷ []);
 }
 
@@ -53,7 +58,7 @@ module _ {C : Type 0} (octets : C → List ℕ) (one_encoding : (c d : C) → 1 
   kinds : {P : Type 0} (m n : ℕ) (t u : List ℕ) → m ≢ n → m ∷ t ≡ n ∷ u → P
   kinds m n t u differ is = absurd (differ (ap (λ l. get_or l 0 0) is))
 
-  pub alike : (f g : Fact C) (t u : List ℕ) → Fits octets f → Fits octets g → encoding octets f ++ t ≡ encoding octets g ++ u → (f ≡ g) × (t ≡ u)
+  pub alike : (f g : Fact C) (t u : List ℕ) → FactFits octets f → FactFits octets g → fact_encoding octets f ++ t ≡ fact_encoding octets g ++ u → (f ≡ g) × (t ≡ u)
   alike (Used r) (Used s) t u x y is = let n = one4 r s t u x.to y.to (ap (drop 1) is) in (ap Used n.number, n.rest)
   alike (Used r) (Promised q d) t u x y is = kinds 1 2 _ _ (omega arith) is
   alike (Used r) (Took q d e) t u x y is = kinds 1 3 _ _ (omega arith) is
@@ -81,7 +86,7 @@ module _ {C : Type 0} (octets : C → List ℕ) (one_encoding : (c d : C) → 1 
       let w = blobs c e t u x.1 y.1 n.rest in
       (λ i. Chosen (n.number i) (w.0 i), w.1)
 
-  longer : (f : Fact C) (t : List ℕ) → encoding octets f ++ t ≡ [] → ⊥
+  longer : (f : Fact C) (t : List ℕ) → fact_encoding octets f ++ t ≡ [] → ⊥
   longer (Used r) t is = absurd (omega (arith, ap length is))
   longer (Promised p b) t is = absurd (omega (arith, ap length is))
   longer (Took p b c) t is = absurd (omega (arith, ap length is))
@@ -100,12 +105,14 @@ module _ {C : Type 0} (octets : C → List ℕ) (one_encoding : (c d : C) → 1 
   stuck : (fs gs : List (Fact C)) (rest : List ℕ) → AllFit octets fs → AllFit octets gs → NoFact octets rest → 0 < length rest → encodings octets fs ++ rest ≡ encodings octets gs → ⊥
   stuck [] [] rest x y none some is = absurd (omega (arith, some, ap length is))
   stuck [] (g ∷ gs) rest x y none some is = none g (encodings octets gs) y.0 is
-  stuck (f ∷ fs) [] rest x y none some is = longer f (encodings octets fs ++ rest) (sym (append_assoc (encoding octets f) (encodings octets fs) rest) ∙ is)
+  stuck (f ∷ fs) [] rest x y none some is = longer f (encodings octets fs ++ rest) (sym (append_assoc (fact_encoding octets f) (encodings octets fs) rest) ∙ is)
   stuck (f ∷ fs) (g ∷ gs) rest x y none some is =
-      let h = alike f g (encodings octets fs ++ rest) (encodings octets gs) x.0 y.0 (sym (append_assoc (encoding octets f) (encodings octets fs) rest) ∙ is) in
+      let h = alike f g (encodings octets fs ++ rest) (encodings octets gs) x.0 y.0 (sym (append_assoc (fact_encoding octets f) (encodings octets fs) rest) ∙ is) in
       stuck fs gs rest x.1 y.1 none some h.1
 
-  pub no_more : (before facts : List (Fact C)) (body rest : List ℕ) → ReadSoFar octets before facts body rest → NoFact octets rest → 0 < length rest → (more : List (Fact C)) → AllFit octets more → body ≡ encodings octets more → ⊥
+  pub no_more : (before facts : List (Fact C)) (body rest : List ℕ)
+      → ReadSoFar octets before facts body rest → NoFact octets rest → 0 < length rest
+      → (more : List (Fact C)) → AllFit octets more → body ≡ encodings octets more → ⊥
   no_more before facts body rest so_far none some more fit is = stuck so_far.more more rest so_far.fit fit none some (sym so_far.split ∙ is)
 
   -- the vote of a taken command isn't there

@@ -1,8 +1,10 @@
 -- A pair of images opens to one list of facts, and what can't be read is in none that opens.
-use Rattle.std.proofs.Common.{◌≡◌, ◌⊎◌, ◌≤◌, inl, inr, ⊎_elim, ◌+◌, ℕ, Bool, true, false, cond, List, [], ◌∷◌, ◌++◌, length, take, drop, get_or, refl, sym, ◌∙◌, ap, subst, arith, append_assoc, length-append}
+use Rattle.std.proofs.Common.{◌≡◌, ◌⊎◌, ◌≤◌, inl, inr, ⊎_elim, ◌+◌, ℕ, Bool, true, false, cond}
+use Rattle.std.proofs.Common.{List, [], ◌∷◌, ◌++◌, length, take, drop, get_or, refl, sym, ◌∙◌, ap}
+use Rattle.std.proofs.Common.{subst, arith, append_assoc, length-append}
 use Rattle.std.proofs.lemmas.List.{take_at}
 use Rattle.std.specs.List.{flat_map, AllByRecursion}
-use Rattle.ts_journal.specs.Images.{Header, Member, member_of, at_generation, head, Block, block, bodies_in, IsBody, IsWhole, Stands, InUse, Opens}
+use Rattle.ts_journal.specs.Images.{Header, Member, member_of, at_generation, head, Block, block, bodies_in, IsBody, IsWholeBlock, Stands, InUse, Opens}
 use Rattle.ts_journal.specs.Choice.{header_of_owner, IsLive, IsOther, Unchosen, LooksLike}
 use Rattle.ts_journal.specs.declared.choice.Owner.{Owner}
 use Rattle.ts_journal.specs.declared.choice.Look.{Look}
@@ -42,7 +44,9 @@ module _ (layout : Layout) (short : layout.longest_body ≤ 4194500) where
   meet octets [] (c ∷ cs) r s x y z is = inr (c, flat_map block cs ++ 0 ∷ s, y.0, z.0, is ∙ append_assoc (block c) (flat_map block cs) (0 ∷ s))
   meet octets (b ∷ bs) [] r s x y z is = absurd (x.0.0 (ap (λ l. get_or l 0 0) is))
   meet octets (b ∷ bs) (c ∷ cs) r s x y z is =
-      let a = alike b c (flat_map block bs ++ r) (flat_map block cs ++ 0 ∷ s) (fits_body b x.0) (fits_body c y.0) (sym (append_assoc (block b) (flat_map block bs) r) ∙ is ∙ append_assoc (block c) (flat_map block cs) (0 ∷ s)) in
+      let a = alike b c (flat_map block bs ++ r) (flat_map block cs ++ 0 ∷ s) (fits_body b x.0)
+      (fits_body c y.0) (sym (append_assoc (block b) (flat_map block bs) r) ∙ is
+      ∙ append_assoc (block c) (flat_map block cs) (0 ∷ s)) in
       ⊎_elim (λ e. inl ((λ i. a.body i ∷ e.0 i), e.1)) (λ g. inr g) (meet octets bs cs r s x.1 y.1 z.1 a.rest)
 
   -- what is read of an image, against what is on it
@@ -83,21 +87,27 @@ module _ {C : Type 0} (octets : C → List ℕ) (one_encoding : (c d : C) → 1 
       sym are.joined ∙ ap (λ gs. flat_map (λ (group : List (Fact C)). group) gs) (one_grouping are.groups too.groups are.fit too.fit (are.encoded ∙ is ∙ sym too.encoded)) ∙ too.joined
 
   -- what is read is what is there
-  pub read_is : (layout : Layout) (image : List ℕ) (facts more : List (Fact C)) (end : ℕ) → layout.longest_body ≤ 4194500 → IsRead octets layout image facts end → HoldsFacts octets layout more image → facts ≡ more
+  pub read_is : (layout : Layout) (image : List ℕ) (facts more : List (Fact C)) (end : ℕ)
+      → layout.longest_body ≤ 4194500 → IsRead octets layout image facts end
+      → HoldsFacts octets layout more image → facts ≡ more
   read_is layout image facts more end short read s =
       ⊎_elim (λ e. one_meaning (bodies_in read.0.blocks) (bodies_in s.blocks) facts more read.0.are s.are e.0)
       (λ g. absurd (g.2.0 (ap (λ l. get_or l 0 0) (sym g.4 ∙ read.1))))
       (met layout short octets image facts more end read.0 s)
 
   -- one list of facts stands on an image
-  pub one_holding : (layout : Layout) (image : List ℕ) (facts more : List (Fact C)) → layout.longest_body ≤ 4194500 → HoldsFacts octets layout facts image → HoldsFacts octets layout more image → facts ≡ more
+  pub one_holding : (layout : Layout) (image : List ℕ) (facts more : List (Fact C))
+      → layout.longest_body ≤ 4194500 → HoldsFacts octets layout facts image
+      → HoldsFacts octets layout more image → facts ≡ more
   one_holding layout image facts more short s t =
       ⊎_elim (λ e. one_meaning (bodies_in s.blocks) (bodies_in t.blocks) facts more s.are t.are e.0)
       (λ g. absurd (g.2.0 (sym (ap (λ l. get_or l 0 0) g.4))))
       (meet layout short octets s.blocks t.blocks (0 ∷ s.rest) t.rest s.whole t.whole (all_facts octets t.blocks t.are.groups t.are.encoded t.are.fit) (sym s.is ∙ t.is))
 
 -- bodies that stand after a header and a live gate, and hold facts
-pub holding : {C : Type 0} (octets : C → List ℕ) (h : Header) (live : ℕ) (bodies : List (List ℕ)) (facts : List (Fact C)) (image : List ℕ) → Stands h live bodies image → AreFacts octets bodies facts → HoldsFacts octets version_2 facts image
+pub holding : {C : Type 0} (octets : C → List ℕ) (h : Header) (live : ℕ) (bodies : List (List ℕ))
+    (facts : List (Fact C)) (image : List ℕ) → Stands h live bodies image
+    → AreFacts octets bodies facts → HoldsFacts octets version_2 facts image
 holding octets h live bodies facts image s are = record {
   blocks = s.blocks;
   whole = blocks_whole s.blocks s.whole;
@@ -106,7 +116,7 @@ holding octets h live bodies facts image s are = record {
   is = ap (drop 25) s.closed.1;
 }
   where
-    blocks_whole : (blocks : List Block) → AllByRecursion IsWhole blocks → AllByRecursion (IsBlock version_2) blocks
+    blocks_whole : (blocks : List Block) → AllByRecursion IsWholeBlock blocks → AllByRecursion (IsBlock version_2) blocks
     blocks_whole [] each = tt
     blocks_whole (b ∷ blocks) each = ((each.0.is_open, record { from = each.0.fits.some; to = each.0.fits.short }), blocks_whole blocks each.1)
 
@@ -128,20 +138,34 @@ not_unchosen m bodies a b none (inr u) = none.second u.header (live_of m bodies 
 not_other : (stage : Stage) (k : Header) (m : Member) (bodies : List (List ℕ)) (image other : List ℕ) → IsLive k image → IsOther stage k other → InUse m bodies other image → ⊥
 not_other Live k m bodies image other live earlier u =
     let was = at_generation k earlier.0 in
-    absurd (omega (arith, earlier.5, behind_live k u.header image live u.behind, ap (λ (x : Header). x.generation) (one_header u.header was other (live_of m bodies other image u) (earlier_live k other earlier))))
+    absurd (omega (
+      arith,
+      earlier.5,
+      behind_live k u.header image live u.behind,
+      ap
+          (λ (x : Header). x.generation)
+          (one_header u.header was other (live_of m bodies other image u)
+          (earlier_live k other earlier)),
+    ))
 not_other Closed k m bodies image other live shut u = live_not_shut u.header other (live_of m bodies other image u) shut
 not_other Begun k m bodies image other live none u = none
 not_other Copying k m bodies image other live none u = none
 
 -- the bodies are on the disk that is chosen
-pub stands_chosen : (swapped : Bool) (owner : Owner) (stage : Stage) (m : Member) (bodies : List (List ℕ)) (a b : List ℕ) → IsLive (header_of_owner owner) (cond swapped b a) → IsOther stage (header_of_owner owner) (cond swapped a b) → Opens m bodies a b → (h : Header) × (live : ℕ) × Stands h live bodies (cond swapped b a)
+pub stands_chosen : (swapped : Bool) (owner : Owner) (stage : Stage) (m : Member)
+    (bodies : List (List ℕ)) (a b : List ℕ) → IsLive (header_of_owner owner) (cond swapped b a)
+    → IsOther stage (header_of_owner owner) (cond swapped a b) → Opens m bodies a b → (h : Header)
+    × (live : ℕ) × Stands h live bodies (cond swapped b a)
 stands_chosen true owner stage m bodies a b live other (inl u) = absurd (not_other stage (header_of_owner owner) m bodies b a live other u)
 stands_chosen true owner stage m bodies a b live other (inr u) = (u.header, u.live, u.stands)
 stands_chosen false owner stage m bodies a b live other (inl u) = (u.header, u.live, u.stands)
 stands_chosen false owner stage m bodies a b live other (inr u) = absurd (not_other stage (header_of_owner owner) m bodies a b live other u)
 
 -- the disk that is chosen is that member's
-pub owner_chosen : (swapped : Bool) (owner : Owner) (stage : Stage) (m : Member) (bodies : List (List ℕ)) (a b : List ℕ) → IsLive (header_of_owner owner) (cond swapped b a) → IsOther stage (header_of_owner owner) (cond swapped a b) → Opens m bodies a b → member_of (header_of_owner owner) ≡ m
+pub owner_chosen : (swapped : Bool) (owner : Owner) (stage : Stage) (m : Member)
+    (bodies : List (List ℕ)) (a b : List ℕ) → IsLive (header_of_owner owner) (cond swapped b a)
+    → IsOther stage (header_of_owner owner) (cond swapped a b) → Opens m bodies a b
+    → member_of (header_of_owner owner) ≡ m
 owner_chosen true owner stage m bodies a b live other (inl u) = absurd (not_other stage (header_of_owner owner) m bodies b a live other u)
 owner_chosen true owner stage m bodies a b live other (inr u) = ap member_of (one_header (header_of_owner owner) u.header b live (live_of m bodies b a u)) ∙ u.owner
 owner_chosen false owner stage m bodies a b live other (inl u) = ap member_of (one_header (header_of_owner owner) u.header a live (live_of m bodies a b u)) ∙ u.owner

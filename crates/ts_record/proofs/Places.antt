@@ -1,5 +1,7 @@
 -- A table of positions grows fact by fact.
-use Rattle.std.proofs.Common.{◌≡◌, ◌≢◌, ◌≤◌, ◌<◌, ◌+◌, ℕ, zero, suc, max, List, [], ◌∷◌, ◌++◌, length, set, get_or, take, drop, Option, Some, None, ◌==◌, if◌then◌else◌, refl, sym, ◌∙◌, ap, arith, append_assoc}
+use Rattle.std.proofs.Common.{◌≡◌, ◌≢◌, ◌≤◌, ◌<◌, ◌+◌, ℕ, zero, suc, max, List, [], ◌∷◌, ◌++◌}
+use Rattle.std.proofs.Common.{length, set, get_or, take, drop, Option, Some, None, ◌==◌}
+use Rattle.std.proofs.Common.{if◌then◌else◌, refl, sym, ◌∙◌, ap, arith, append_assoc}
 use Rattle.std.proofs.lemmas.Bool.Decides.{Decides-eqb}
 use Rattle.std.proofs.lemmas.List.{take_more, drop_more}
 use Rattle.ts_synod.specs.Force.{used_round, round_used_by, greater_vote, first_some, taken_vote, vote_at, learned_command, command_at}
@@ -8,11 +10,11 @@ use Rattle.ts_synod.proofs.Same.{used_push, taken_more, learned_push}
 use Rattle.ts_synod.specs.declared.message.Fact.{Fact}
 use Rattle.ts_synod.specs.declared.message.Fact.TheVariants.{Used, Promised, Took, Chosen}
 use Rattle.ts_synod.specs.declared.message.Vote.{Vote}
-use Rattle.ts_record.specs.Compacted.{position_of, last_position, promise_at, greatest_promise, facts_at, facts_from}
-use Rattle.ts_record.specs.Places.{place_of, places, with_fact, facts_of, facts_of_all}
+use Rattle.ts_record.specs.Compacted.{position_of, last_fact_position, promise_at, greatest_promise, facts_at, facts_from}
+use Rattle.ts_record.specs.inside.Places.{place_of, places, with_fact, facts_of, facts_of_all}
 use Rattle.ts_record.specs.declared.compacted.Place.{Place}
 
-pub last_push : {C : Type 0} (fs : List (Fact C)) (f : Fact C) → last_position (fs ++ f ∷ []) ≡ max (position_of f) (last_position fs)
+pub last_push : {C : Type 0} (fs : List (Fact C)) (f : Fact C) → last_fact_position (fs ++ f ∷ []) ≡ max (position_of f) (last_fact_position fs)
 last_push [] f = refl
 last_push (g ∷ fs) f = let h = last_push fs f in omega arith
 
@@ -20,7 +22,7 @@ pub round_push : {C : Type 0} (fs : List (Fact C)) (f : Fact C) → used_round (
 round_push = used_push
 
 -- no fact is past the last position
-pub within : {C : Type 0} (fs : List (Fact C)) (i : ℕ) (f : Fact C) → i < length fs → f ≡ get_or fs i f → position_of f ≤ last_position fs
+pub within : {C : Type 0} (fs : List (Fact C)) (i : ℕ) (f : Fact C) → i < length fs → f ≡ get_or fs i f → position_of f ≤ last_fact_position fs
 within [] i f le is = absurd (omega (arith, le))
 within {C} (g ∷ fs) zero f le is = omega (arith, ap (λ (x : Fact C). position_of x) is)
 within (g ∷ fs) (suc i) f le is = omega (arith, within fs i f (omega (arith, le)) is)
@@ -47,14 +49,41 @@ pub no : {A : Type 0} (q p : ℕ) (x y : A) → p ≢ q → (if q == p then x el
 no q p x y differ = by_test (λ z. z ≡ y) (q == p) x y (λ e. absurd (differ (sym ((Decides-eqb q p).0 e)))) (λ e. refl)
 
 -- one fact more, at its position and at others
-at_push : {C : Type 0} (fs : List (Fact C)) (p : ℕ) (f : Fact C) → place_of p (fs ++ f ∷ []) ≡ record { promised = max (greatest_promise p fs) (promise_at p f); taken = greater_vote (taken_vote p fs) (vote_at p f); learned = first_some (learned_command p fs) (command_at p f) }
+at_push : {C : Type 0} (fs : List (Fact C)) (p : ℕ) (f : Fact C)
+    → place_of p (fs ++ f ∷ []) ≡
+    record {
+      promised = max (greatest_promise p fs) (promise_at p f);
+      taken =
+          greater_vote (taken_vote p fs) (vote_at p f);
+      learned =
+          first_some (learned_command p fs) (command_at p f);
+    }
 at_push fs p f = λ i. record { promised = promise_push fs p f i; taken = taken_more fs p f i; learned = learned_push fs p f i }
 
 here : {C : Type 0} (fs : List (Fact C)) (f : Fact C) → place_of (position_of f) (fs ++ f ∷ []) ≡ with_fact (place_of (position_of f) fs) f
 here fs (Used r) = at_push fs 0 (Used r) ∙ (λ i. record { promised = max_none (greatest_promise 0 fs) 0 refl i; taken = vote_none (taken_vote 0 fs) i; learned = first_none (learned_command 0 fs) i })
-here fs (Promised p b) = at_push fs p (Promised p b) ∙ (λ i. record { promised = max (greatest_promise p fs) (yes p b 0 i); taken = vote_none (taken_vote p fs) i; learned = first_none (learned_command p fs) i })
-here fs (Took p b c) = at_push fs p (Took p b c) ∙ (λ i. record { promised = max_none (greatest_promise p fs) 0 refl i; taken = greater_vote (taken_vote p fs) (yes p (Some (record { ballot = b; command = c })) None i); learned = first_none (learned_command p fs) i })
-here fs (Chosen p c) = at_push fs p (Chosen p c) ∙ (λ i. record { promised = max_none (greatest_promise p fs) 0 refl i; taken = vote_none (taken_vote p fs) i; learned = first_some (learned_command p fs) (yes p (Some c) None i) })
+here fs (Promised p b) = at_push fs p (Promised p b)
+    ∙ (λ i. record {
+      promised = max (greatest_promise p fs) (yes p b 0 i);
+      taken =
+          vote_none (taken_vote p fs) i;
+      learned = first_none (learned_command p fs) i;
+    })
+here fs (Took p b c) = at_push fs p (Took p b c)
+    ∙ (λ i. record {
+      promised = max_none (greatest_promise p fs) 0 refl i;
+      taken =
+          greater_vote (taken_vote p fs) (yes p (Some (record { ballot = b; command = c })) None i);
+      learned = first_none (learned_command p fs) i;
+    })
+here fs (Chosen p c) = at_push fs p (Chosen p c)
+    ∙ (λ i. record {
+      promised = max_none (greatest_promise p fs) 0 refl i;
+      taken =
+          vote_none (taken_vote p fs) i;
+      learned =
+          first_some (learned_command p fs) (yes p (Some c) None i);
+    })
 
 there_of : {C : Type 0} (fs : List (Fact C)) (f : Fact C) (p : ℕ) → promise_at p f ≡ 0 → vote_at p f ≡ None → command_at p f ≡ None → place_of p (fs ++ f ∷ []) ≡ place_of p fs
 there_of fs f p promise vote command = at_push fs p f ∙ (λ i. record {

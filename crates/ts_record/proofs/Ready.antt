@@ -1,15 +1,18 @@
 -- Each fact that is kept can be written as a body of its own, and so can each that a rewrite copies.
-use Rattle.std.proofs.Common.{◌≡◌, ◌⊎◌, inl, inr, ⊎_elim, ◌≤◌, ◌<◌, ℕ, zero, suc, max, true, false, Bool, List, [], ◌∷◌, ◌++◌, length, map, drop, get_or, Option, Some, None, ◌==◌, nat_lt, nat_le, if◌then◌else◌, refl, sym, ◌∙◌, ap, subst, arith, length-append}
+use Rattle.std.proofs.Common.{◌≡◌, ◌⊎◌, inl, inr, ⊎_elim, ◌≤◌, ◌<◌, ℕ, zero, suc, max, true, false}
+use Rattle.std.proofs.Common.{Bool, List, [], ◌∷◌, ◌++◌, length, map, drop, get_or, Option, Some}
+use Rattle.std.proofs.Common.{None, ◌==◌, nat_lt, nat_le, if◌then◌else◌, refl, sym, ◌∙◌, ap, subst}
+use Rattle.std.proofs.Common.{arith, length-append}
 use Rattle.std.proofs.lemmas.Bool.Decides.{Decides-eqb, nat_tests}
 use Rattle.std.specs.List.{flat_map, AllByRecursion}
-use Rattle.ts_journal.specs.Images.{Block, IsWhole}
+use Rattle.ts_journal.specs.Images.{Block, IsWholeBlock}
 use Rattle.ts_synod.specs.Force.{used_round, round_used_by, greater_vote, first_some, taken_vote, vote_at, learned_command, command_at}
 use Rattle.ts_synod.proofs.Sets.{by_test}
 use Rattle.ts_synod.specs.declared.message.Fact.{Fact}
 use Rattle.ts_synod.specs.declared.message.Fact.TheVariants.{Used, Promised, Took, Chosen}
 use Rattle.ts_synod.specs.declared.message.Vote.{Vote}
-use Rattle.ts_record.specs.Compacted.{last_position, promise_at, greatest_promise, used_fact, promise_fact, vote_fact, learned_fact, facts_at, facts_from, compacted}
-use Rattle.ts_record.specs.Facts.{encoding, encodings, AllFit, AreFacts}
+use Rattle.ts_record.specs.Compacted.{last_fact_position, promise_at, greatest_promise, used_fact, promise_fact, vote_fact, learned_fact, facts_at, facts_from, compact}
+use Rattle.ts_record.specs.Facts.{fact_encoding, encodings, AllFit, AreFacts}
 use Rattle.ts_record.specs.Rewrite.{IsReady}
 
 pub all_more : {X : Type 0} (P : X → Type 0) (xs ys : List X) → AllByRecursion P xs → AllByRecursion P ys → AllByRecursion P (xs ++ ys)
@@ -26,10 +29,12 @@ module _ {C : Type 0} (octets : C → List ℕ) where
   pub ready_more : (more : List (Fact C)) → AllFit octets more → length (encodings octets more) ≤ 4194500 → AllByRecursion (IsReady octets) more
   ready_more [] fit short = tt
   ready_more (f ∷ fs) fit short =
-      let all = length-append (encoding octets f) (encodings octets fs) in
+      let all = length-append (fact_encoding octets f) (encodings octets fs) in
       ((fit.0, omega (arith, short, all)), ready_more fs fit.1 (omega (arith, short, all)))
 
-  of_groups : (groups : List (List (Fact C))) (blocks : List Block) → AllByRecursion (AllFit octets) groups → AllByRecursion IsWhole blocks → map (encodings octets) groups ≡ map (λ (b : Block). b.body) blocks
+  of_groups : (groups : List (List (Fact C))) (blocks : List Block)
+      → AllByRecursion (AllFit octets) groups → AllByRecursion IsWholeBlock blocks
+      → map (encodings octets) groups ≡ map (λ (b : Block). b.body) blocks
       → AllByRecursion (IsReady octets) (flat_map (λ group. group) groups)
   of_groups [] blocks fit whole is = tt
   of_groups (g ∷ groups) [] fit whole is = absurd (omega (arith, ap length is))
@@ -40,7 +45,9 @@ module _ {C : Type 0} (octets : C → List ℕ) where
       (of_groups groups blocks fit.1 whole.1 (ap (drop 1) is))
 
   -- the facts of whole blocks
-  pub ready_facts : (facts : List (Fact C)) (bodies : List (List ℕ)) (blocks : List Block) → AllByRecursion IsWhole blocks → map (λ (b : Block). b.body) blocks ≡ bodies → AreFacts octets bodies facts → AllByRecursion (IsReady octets) facts
+  pub ready_facts : (facts : List (Fact C)) (bodies : List (List ℕ)) (blocks : List Block)
+      → AllByRecursion IsWholeBlock blocks → map (λ (b : Block). b.body) blocks ≡ bodies
+      → AreFacts octets bodies facts → AllByRecursion (IsReady octets) facts
   ready_facts facts bodies blocks whole is are = subst (AllByRecursion (IsReady octets)) are.joined (of_groups are.groups blocks are.fit whole (are.encoded ∙ sym is))
 
 -- what is copied is among the facts
@@ -81,7 +88,9 @@ module _ {C : Type 0} (P : Fact C → Type 0) where
   vote_one : (p : ℕ) (f : Fact C) → P f → AllByRecursion P (vote_fact p (vote_at p f))
   vote_one p (Used r) is = tt
   vote_one p (Promised q b) is = tt
-  vote_one p (Took q b c) is = by_test (λ t. AllByRecursion P (vote_fact p t)) (q == p) (Some (record { ballot = b; command = c })) None (λ e. (subst (λ k. P (Took k b c)) ((Decides-eqb q p).0 e) is, tt)) (λ e. tt)
+  vote_one p (Took q b c) is = by_test (λ t. AllByRecursion P (vote_fact p t)) (q == p)
+      (Some (record { ballot = b; command = c })) None
+      (λ e. (subst (λ k. P (Took k b c)) ((Decides-eqb q p).0 e) is, tt)) (λ e. tt)
   vote_one p (Chosen q c) is = tt
 
   vote_two : (p : ℕ) (v w : Option (Vote C)) → AllByRecursion P (vote_fact p v) → AllByRecursion P (vote_fact p w) → AllByRecursion P (vote_fact p (greater_vote v w))
@@ -120,8 +129,8 @@ module _ {C : Type 0} (P : Fact C → Type 0) where
   at_all from zero fs each = tt
   at_all from (suc n) fs each = all_more P (facts_at from fs) (facts_from (suc from) n fs) (at_one from fs each) (at_all (suc from) n fs each)
 
-  pub all_compacted : (fs : List (Fact C)) → AllByRecursion P fs → AllByRecursion P (compacted fs)
+  pub all_compacted : (fs : List (Fact C)) → AllByRecursion P fs → AllByRecursion P (compact fs)
   all_compacted fs each =
-      all_more P (used_fact (used_round fs)) (facts_from 0 (suc (last_position fs)) fs)
+      all_more P (used_fact (used_round fs)) (facts_from 0 (suc (last_fact_position fs)) fs)
       (unless_none (used_round fs) (Used (used_round fs)) (used_all fs each))
-      (at_all 0 (suc (last_position fs)) fs each)
+      (at_all 0 (suc (last_fact_position fs)) fs each)

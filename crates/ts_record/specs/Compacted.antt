@@ -15,9 +15,9 @@ position_of (Took p b c) = p
 position_of (Chosen p c) = p
 
 -- the last position that facts are about
-abbrev pub last_position : {C : Type 0} → List (Fact C) → ℕ
-last_position [] = 0
-last_position (f ∷ fs) = max (position_of f) (last_position fs)
+abbrev pub last_fact_position : {C : Type 0} → List (Fact C) → ℕ
+last_fact_position [] = 0
+last_fact_position (f ∷ fs) = max (position_of f) (last_fact_position fs)
 
 -- the ballot that a fact promises at p
 abbrev pub promise_at : {C : Type 0} → ℕ → Fact C → ℕ
@@ -58,5 +58,5 @@ facts_from from zero facts = []
 facts_from from (suc n) facts = facts_at from facts ++ facts_from (suc from) n facts
 
 -- the greatest round used, and then those of each position
-abbrev pub compacted : {C : Type 0} → List (Fact C) → List (Fact C)
-compacted facts = used_fact (used_round facts) ++ facts_from 0 (suc (last_position facts)) facts
+abbrev pub compact : {C : Type 0} → List (Fact C) → List (Fact C)
+compact facts = used_fact (used_round facts) ++ facts_from 0 (suc (last_fact_position facts)) facts

@@ -12,17 +12,18 @@ abbrev pub blob : List ℕ → List ℕ
 blob octets = to_be_bytes w32 (length octets) ++ octets
 
 -- a kind octet, and the fields
-abbrev pub encoding : {C : Type 0} → (C → List ℕ) → Fact C → List ℕ
-encoding octets (Used round) = 1 ∷ to_be_bytes w32 round
-encoding octets (Promised position ballot) =
+abbrev pub fact_encoding : {C : Type 0} → (C → List ℕ) → Fact C → List ℕ
+fact_encoding octets (Used round) = 1 ∷ to_be_bytes w32 round
+fact_encoding octets (Promised position ballot) =
     2 ∷ (to_be_bytes w32 position ++ to_be_bytes w64 ballot)
-encoding octets (Took position ballot command) =
+fact_encoding octets (Took position ballot command) =
     3 ∷ (to_be_bytes w32 position ++ (to_be_bytes w64 ballot ++ blob (octets command)))
-encoding octets (Chosen position command) = 4 ∷ (to_be_bytes w32 position ++ blob (octets command))
+fact_encoding octets (Chosen position command) = 4 ∷
+    (to_be_bytes w32 position ++ blob (octets command))
 
 -- the facts of a body, one after the other
 abbrev pub encodings : {C : Type 0} → (C → List ℕ) → List (Fact C) → List ℕ
-encodings octets facts = flat_map (encoding octets) facts
+encodings octets facts = flat_map (fact_encoding octets) facts
 
 -- 1 to 1,000,000
 pub record IsPosition (position : ℕ) : Type 0 where
@@ -46,15 +47,15 @@ pub record IsBlob (octets : List ℕ) : Type 0 where
   pub short : length octets < 2 ^ 32
 
 -- each field is in its range
-abbrev pub Fits : {C : Type 0} → (C → List ℕ) → Fact C → Type 0
-Fits octets (Used round) = IsRound round
-Fits octets (Promised position ballot) = IsPosition position × IsBallot ballot
-Fits octets (Took position ballot command) =
+abbrev pub FactFits : {C : Type 0} → (C → List ℕ) → Fact C → Type 0
+FactFits octets (Used round) = IsRound round
+FactFits octets (Promised position ballot) = IsPosition position × IsBallot ballot
+FactFits octets (Took position ballot command) =
     IsPosition position × IsBallot ballot × IsBlob (octets command)
-Fits octets (Chosen position command) = IsPosition position × IsBlob (octets command)
+FactFits octets (Chosen position command) = IsPosition position × IsBlob (octets command)
 
 abbrev pub AllFit : {C : Type 0} → (C → List ℕ) → List (Fact C) → Type 0
-AllFit octets facts = AllByRecursion (Fits octets) facts
+AllFit octets facts = AllByRecursion (FactFits octets) facts
 
 -- one body for each list of facts
 abbrev pub bodies_of : {C : Type 0} → (C → List ℕ) → List (List (Fact C)) → List (List ℕ)
@@ -70,14 +71,14 @@ pub record AreFacts {C : Type 0} (octets : C → List ℕ) (bodies : List (List 
 
 -- no fact begins here
 abbrev pub NoFact : {C : Type 0} → (C → List ℕ) → List ℕ → Type 0
-NoFact {C} octets rest = (fact : Fact C) (after : List ℕ) → Fits octets fact
-    → rest ≡ encoding octets fact ++ after → ⊥
+NoFact {C} octets rest = (fact : Fact C) (after : List ℕ) → FactFits octets fact
+    → rest ≡ fact_encoding octets fact ++ after → ⊥
 
 -- the fact that begins here, and the length of its octets; or no fact begins here
 abbrev pub Begins : {C : Type 0} → (C → List ℕ) → List ℕ → Option (Fact C × ℕ) → Type 0
 Begins octets rest found = MatchOption found (NoFact octets rest)
-    (λ read. Fits octets read.0 × (1 ≤ read.1) × (read.1 ≤ length rest)
-    × (rest ≡ encoding octets read.0 ++ drop read.1 rest))
+    (λ read. FactFits octets read.0 × (1 ≤ read.1) × (read.1 ≤ length rest)
+    × (rest ≡ fact_encoding octets read.0 ++ drop read.1 rest))
 
 -- the same after the octet of its kind
 abbrev pub FactOrNot : {C : Type 0} → (C → List ℕ) → ℕ → List ℕ → Option (Fact C × ℕ) → Type 0

@@ -9,7 +9,7 @@ use Rattle.ts_record.specs.declared.ledger.Ledger.{Ledger}
 use Rattle.ts_record.specs.Facts.{AreFacts}
 use Rattle.ts_record.specs.Rewrite.{Rewrite, rewrite_at, IsUnderWay, Course}
 
-pub record Kept (D C : Type 0) : Type 0 where
+pub record KeptRecord (D C : Type 0) : Type 0 where
   pub a : D
   pub b : D
   pub facts : List (Fact C)
@@ -22,11 +22,11 @@ pub record Kept (D C : Type 0) : Type 0 where
   pub broken : Bool
 
 -- the node whose record it is
-abbrev pub member : {D C : Type 0} → Kept D C → Member
+abbrev pub member : {D C : Type 0} → KeptRecord D C → Member
 member kept = record { node = kept.node; nodes = kept.nodes }
 
 -- all but its disks
-abbrev pub course : {D C : Type 0} → Kept D C → Course C
+abbrev pub course : {D C : Type 0} → KeptRecord D C → Course C
 course kept = record {
   facts = kept.facts;
   swapped = kept.swapped;
@@ -45,7 +45,7 @@ course_of c = record {
   rewrite = rewrite_of c;
 }
 
-abbrev pub kept_of : {D C : Type 0} → Ledger D C → Bool → Kept D C
+abbrev pub kept_of : {D C : Type 0} → Ledger D C → Bool → KeptRecord D C
 kept_of c broken = record {
   a = disk_a c.journal;
   b = disk_b c.journal;

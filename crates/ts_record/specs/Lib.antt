@@ -5,6 +5,6 @@ pub mod Faults
 pub mod Kept
 pub mod Old
 pub mod Opening
-pub mod Places
 pub mod Record
 pub mod Rewrite
+pub mod inside

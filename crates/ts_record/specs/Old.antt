@@ -4,10 +4,11 @@ use Rattle.ts_journal.specs.Images.{Member}
 use Rattle.ts_synod.specs.declared.message.Fact.{Fact}
 use Rattle.ts_record.specs.Facts.{OpensTo}
 use Rattle.ts_record.specs.Blocks.{version_1, HoldsFacts, IsUnreadable}
-use Rattle.ts_record.specs.declared.fault.Fault.{Fault}
-use Rattle.ts_record.specs.declared.fault.Fault.TheVariants.{Memory, DiskFailed, Broken}
-use Rattle.ts_record.specs.declared.fault.Fault.TheVariants.{GenerationsExhausted, NotFormatted}
-use Rattle.ts_record.specs.declared.fault.Fault.TheVariants.{OldVersion, Damaged}
+use Rattle.ts_record.specs.declared.fault.RecordFault.{RecordFault}
+use Rattle.ts_record.specs.declared.fault.RecordFault.TheVariants.{Memory, DiskFailed, Broken}
+use Rattle.ts_record.specs.declared.fault.RecordFault.TheVariants.{GenerationsExhausted}
+use Rattle.ts_record.specs.declared.fault.RecordFault.TheVariants.{NotFormatted}
+use Rattle.ts_record.specs.declared.fault.RecordFault.TheVariants.{OldVersion, Damaged}
 
 -- the octets before the first gate
 abbrev pub old_head : Member → List ℕ
@@ -34,7 +35,7 @@ AllFactsOrNone {C} octets facts a b =
 
 -- Each fault of a migration, and where it comes from: a device failed; no header of version 1 is
 -- there; or a gate, length or body after it can't be read.
-abbrev pub IsMigrationFault : {C : Type 0} → (C → List ℕ) → List ℕ → Type 0 → Fault → Type 0
+abbrev pub IsMigrationFault : {C : Type 0} → (C → List ℕ) → List ℕ → Type 0 → RecordFault → Type 0
 IsMigrationFault octets image failed Memory = Unit {0}
 IsMigrationFault octets image failed DiskFailed = failed
 IsMigrationFault octets image failed Broken = ⊥

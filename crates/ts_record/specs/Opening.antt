@@ -6,10 +6,11 @@ use Rattle.ts_journal.specs.declared.choice.Choice.{Choice}
 use Rattle.ts_disk.specs.Disk.{State}
 use Rattle.ts_record.specs.Blocks.{version_2, IsUnreadable}
 use Rattle.ts_record.specs.Record.{EitherFailed}
-use Rattle.ts_record.specs.declared.fault.Fault.{Fault}
-use Rattle.ts_record.specs.declared.fault.Fault.TheVariants.{Memory, DiskFailed, Broken}
-use Rattle.ts_record.specs.declared.fault.Fault.TheVariants.{GenerationsExhausted, NotFormatted}
-use Rattle.ts_record.specs.declared.fault.Fault.TheVariants.{OldVersion, Damaged}
+use Rattle.ts_record.specs.declared.fault.RecordFault.{RecordFault}
+use Rattle.ts_record.specs.declared.fault.RecordFault.TheVariants.{Memory, DiskFailed, Broken}
+use Rattle.ts_record.specs.declared.fault.RecordFault.TheVariants.{GenerationsExhausted}
+use Rattle.ts_record.specs.declared.fault.RecordFault.TheVariants.{NotFormatted}
+use Rattle.ts_record.specs.declared.fault.RecordFault.TheVariants.{OldVersion, Damaged}
 
 -- the first eight octets of a record of version 1
 abbrev pub BeginsOld : List ℕ → Type 0
@@ -20,7 +21,7 @@ abbrev pub IsOld : List ℕ → List ℕ → Type 0
 IsOld a b = BeginsOld a × ((h : Header) → IsLive h b → ⊥)
 
 -- the fault where no disk is in use
-abbrev pub IsRefused : List ℕ → List ℕ → Fault → Type 0
+abbrev pub IsRefused : List ℕ → List ℕ → RecordFault → Type 0
 IsRefused a b Memory = ⊥
 IsRefused a b DiskFailed = ⊥
 IsRefused a b Broken = ⊥
@@ -31,7 +32,8 @@ IsRefused a b (Damaged at) = ⊥
 
 -- Each fault that an open answers, and where it comes from: the device failed; no disk is in use;
 -- or something on the disk in use can't be read.
-abbrev pub IsFault : {C : Type 0} → (C → List ℕ) → State → State → State → State → Fault → Type 0
+abbrev pub IsFault : {C : Type 0} → (C → List ℕ) → State → State → State → State → RecordFault
+    → Type 0
 IsFault octets old_a old_b new_a new_b Memory = Unit {0}
 IsFault octets old_a old_b new_a new_b DiskFailed = EitherFailed old_a old_b new_a new_b
 IsFault octets old_a old_b new_a new_b Broken = ⊥

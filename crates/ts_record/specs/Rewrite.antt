@@ -8,8 +8,8 @@ use Rattle.ts_synod.specs.Force.{SameForce}
 use Rattle.ts_synod.specs.declared.message.Fact.{Fact}
 use Rattle.ts_record.specs.declared.progress.Progress.{Progress}
 use Rattle.ts_record.specs.declared.progress.Progress.TheVariants.{Working, Switched}
-use Rattle.ts_record.specs.Compacted.{compacted}
-use Rattle.ts_record.specs.Facts.{encoding, Fits, AreFacts}
+use Rattle.ts_record.specs.Compacted.{compact}
+use Rattle.ts_record.specs.Facts.{fact_encoding, FactFits, AreFacts}
 
 -- None is begun; the other disk is shut, and these facts are to be copied; or its header is
 -- written, and so many of them are copied.
@@ -55,8 +55,8 @@ on old rewrite = record {
 }
 
 -- the copied facts are the record's, on the other disk, of the next generation
-abbrev pub switched : {C : Type 0} → Course C → List (Fact C) → Course C
-switched old list = record {
+abbrev pub switch : {C : Type 0} → Course C → List (Fact C) → Course C
+switch old list = record {
   facts = list;
   swapped = cond old.swapped false true;
   generation = old.generation + 1;
@@ -66,18 +66,18 @@ switched old list = record {
 -- One step: the facts that make up the force of all are to be copied; none is copied yet; one more
 -- is copied; or, where none is left, the copied facts are the record's.
 abbrev pub StepsFrom : {C : Type 0} → Rewrite C → Course C → Progress → Course C → Type 0
-StepsFrom idle old answer new = (answer ≡ Working) × (new ≡ on old (begun (compacted old.facts)))
+StepsFrom idle old answer new = (answer ≡ Working) × (new ≡ on old (begun (compact old.facts)))
 StepsFrom (begun list) old answer new = (answer ≡ Working) × (new ≡ on old (copying list 0))
 StepsFrom (copying list done) old answer new =
     ((done ≢ length list) × (answer ≡ Working) × (new ≡ on old (copying list (done + 1))))
-    ⊎ ((done ≡ length list) × (answer ≡ Switched) × (new ≡ switched old list))
+    ⊎ ((done ≡ length list) × (answer ≡ Switched) × (new ≡ switch old list))
 
 abbrev pub Steps : {C : Type 0} → Course C → Progress → Course C → Type 0
 Steps old answer new = StepsFrom old.rewrite old answer new
 
 -- it can be written as a body of its own
 abbrev pub IsReady : {C : Type 0} → (C → List ℕ) → Fact C → Type 0
-IsReady octets fact = Fits octets fact × (length (encoding octets fact) ≤ 4194500)
+IsReady octets fact = FactFits octets fact × (length (fact_encoding octets fact) ≤ 4194500)
 
 -- the facts to be copied are of the force of all, and those copied stand on the other disk
 abbrev pub IsUnderWay : {C : Type 0} → (C → List ℕ) → List (Fact C) → List (List ℕ) → Rewrite C

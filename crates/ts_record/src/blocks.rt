@@ -4,11 +4,11 @@ ghost use Rattle.std.specs.Prelude.{◌≡◌, ◌≤◌, ◌<◌, ◌+◌, ◌^
 ghost use Rattle.std.specs.Prelude.{IfOk, IfErr, IfSome, IfNone, MatchOption};
 ghost use Rattle.std.specs.Int.{to_be_bytes, w32};
 ghost use Rattle.ts_synod.specs.declared.message.Fact.{Fact};
-ghost use Rattle.ts_record.specs.declared.fault.Fault.TheVariants.{Memory, Damaged};
+ghost use Rattle.ts_record.specs.declared.fault.RecordFault.TheVariants.{Memory, Damaged};
 ghost use Rattle.ts_record.specs.Blocks.{IsRead, IsUnreadable, IsLength};
 
-use crate::Fault;
-use crate::known::Known;
+use crate::RecordFault;
+use crate::known::KnownFacts;
 use crate::layout::Layout;
 use crate::reading::{read_facts, u32_at};
 use std::alloc::Global;
@@ -41,7 +41,7 @@ pub(crate) fn read_blocks<C: Codec>(
     alloc: Global,
     layout: Layout,
     octets: &[u8],
-) -> Result<Contents<C>, Fault>
+) -> Result<Contents<C>, RecordFault>
     requires long { layout.first_gate ≤ length octets.now }
     requires short { layout.longest_body < 2 ^ 32 }
     ensures read { IfOk result (λ contents. IsRead C.octets layout octets.now contents.facts.items
@@ -50,23 +50,23 @@ pub(crate) fn read_blocks<C: Codec>(
         ⊎ ((at : ℕ) × (fault ≡ Damaged at) × IsUnreadable C.octets layout octets.now at)) }
 {
     let mut facts = Vec::new(alloc);
-    let mut known = Known::none();
+    let mut known = KnownFacts::none();
     let mut at = layout.first_gate;
     while at < octets.len() {
         if octets[at] == 0 {
             return Ok(Contents { facts, end: at });
         }
         let Some(size) = length_at(layout, &octets[at + 1..]) else {
-            return Err(Fault::Damaged(at + 1));
+            return Err(RecordFault::Damaged(at + 1));
         };
         let body = at + 5;
         if octets.len() - body < size {
-            return Err(Fault::Damaged(body));
+            return Err(RecordFault::Damaged(body));
         }
         if !read_facts(alloc, &octets[body..body + size], &mut facts, &mut known)? {
-            return Err(Fault::Damaged(body));
+            return Err(RecordFault::Damaged(body));
         }
         at = body + size;
     }
-    Err(Fault::Damaged(at))
+    Err(RecordFault::Damaged(at))
 }

@@ -2,8 +2,8 @@
 
 ghost use Rattle.std.specs.Prelude.{◌≡◌, ◌≤◌, ◌^◌, ◌++◌, [], suc, length, Some, IfOk, OnOk};
 ghost use Rattle.ts_synod.specs.Force.{round_used_by, used_round, greater_vote};
-ghost use Rattle.ts_record.specs.Compacted.{position_of, last_position, used_fact, compacted};
-ghost use Rattle.ts_record.specs.Places.{places, with_fact, facts_of, facts_of_all};
+ghost use Rattle.ts_record.specs.Compacted.{position_of, last_fact_position, used_fact, compact};
+ghost use Rattle.ts_record.specs.inside.Places.{places, with_fact, facts_of, facts_of_all};
 
 use std::alloc::{AllocError, Global};
 use ts_synod::{Ballot, Codec, Fact, Vote};
@@ -50,7 +50,7 @@ fn round<C: Codec>(fact: &Fact<C>) -> u32
 
 /// The last position, and the greatest round.
 fn bounds<C: Codec>(facts: &[Fact<C>]) -> (u32, u32)
-    ensures last { result.0 ≡ last_position facts.now }
+    ensures last { result.0 ≡ last_fact_position facts.now }
     ensures used { result.1 ≡ used_round facts.now }
 {
     let (mut last, mut used) = (0, 0);
@@ -130,9 +130,9 @@ fn table_of<C: Codec>(
     facts: &[Fact<C>],
     last: u32,
 ) -> Result<Vec<Place<C>>, AllocError>
-    requires { last ≡ last_position facts.now }
+    requires { last ≡ last_fact_position facts.now }
     ensures { IfOk result (λ table. table.items
-        ≡ places 0 (suc (last_position facts.now)) facts.now) }
+        ≡ places 0 (suc (last_fact_position facts.now)) facts.now) }
 {
     let mut table = empty_places(alloc, last as usize + 1)?;
     for fact in facts {
@@ -175,7 +175,7 @@ fn push_place<C: Codec>(
 }
 
 /// The facts of a table.
-fn listed<C: Codec>(
+fn facts_of<C: Codec>(
     alloc: Global,
     used: u32,
     table: &[Place<C>],
@@ -200,10 +200,10 @@ pub(crate) fn compact<C: Codec>(
     alloc: Global,
     facts: &[Fact<C>],
 ) -> Result<Vec<Fact<C>>, AllocError>
-    ensures { IfOk result (λ out. out.items ≡ compacted facts.now) }
+    ensures { IfOk result (λ out. out.items ≡ compact facts.now) }
 {
     let (last, used) = bounds(facts);
     let table = table_of(alloc, facts, last)?;
-    let out = listed(alloc, used, &table)?;
+    let out = facts_of(alloc, used, &table)?;
     Ok(out)
 }

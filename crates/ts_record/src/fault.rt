@@ -1,7 +1,7 @@
 //! What a call of a record answers in place of a value.
 
 ghost use Rattle.std.specs.Prelude.{◌≡◌};
-ghost use Rattle.ts_record.specs.declared.fault.Fault.TheVariants.{Memory};
+ghost use Rattle.ts_record.specs.declared.fault.RecordFault.TheVariants.{Memory};
 ghost use Rattle.ts_record.specs.Faults.{fault_of};
 
 use std::alloc::{AllocError, AllocFailed};
@@ -9,7 +9,7 @@ use ts_disk::DiskFault;
 
 /// What a call of a record answers in place of a value.
 #[derive(Clone, Copy, Debug, PartialEq, Eq)]
-pub enum Fault {
+pub enum RecordFault {
     /// An allocation was refused, and nothing else happened.
     Memory,
     /// A device failed in this call. The record is broken until it is opened again.
@@ -26,29 +26,29 @@ pub enum Fault {
     Damaged(usize),
 }
 
-impl From<AllocError> for Fault {
+impl From<AllocError> for RecordFault {
     ghost from_gives = { λ _ e. e ≡ Memory };
 
     fn from(_: AllocError) -> Self {
-        Fault::Memory
+        RecordFault::Memory
     }
 }
 
-impl<T: Drop> From<AllocFailed<T>> for Fault {
+impl<T: Drop> From<AllocFailed<T>> for RecordFault {
     ghost from_gives = { λ _ e. e ≡ Memory };
 
     fn from(_: AllocFailed<T>) -> Self {
-        Fault::Memory
+        RecordFault::Memory
     }
 }
 
-impl From<DiskFault> for Fault {
+impl From<DiskFault> for RecordFault {
     ghost from_gives = { λ d e. e ≡ fault_of d };
 
     fn from(fault: DiskFault) -> Self {
         match fault {
-            DiskFault::Memory => Fault::Memory,
-            DiskFault::Failed => Fault::DiskFailed,
+            DiskFault::Memory => RecordFault::Memory,
+            DiskFault::Failed => RecordFault::DiskFailed,
         }
     }
 }

@@ -9,7 +9,7 @@ use ts_synod::Codec;
 
 /// The command that was read last, and the octets that it was read from.
 #[derive(Drop)]
-pub(crate) struct Known<'a, C: Codec> {
+pub(crate) struct KnownFacts<'a, C: Codec> {
     octets: &'a [u8],
     command: Option<C>,
     ghost read: { ForSome command
@@ -23,10 +23,10 @@ fn are_same(a: &[u8], b: &[u8]) -> bool
     a == b
 }
 
-impl<'a, C: Codec> Known<'a, C> {
+impl<'a, C: Codec> KnownFacts<'a, C> {
     /// None was read.
-    pub fn none() -> Known<'a, C> {
-        Known {
+    pub fn none() -> KnownFacts<'a, C> {
+        KnownFacts {
             octets: &[],
             command: None,
         }
@@ -57,7 +57,7 @@ impl<'a, C: Codec> Known<'a, C> {
         let read = C::read(alloc, source)?;
         if let Some(command) = &read {
             let command = command.try_copy(alloc)?;
-            *self = Known {
+            *self = KnownFacts {
                 octets: source,
                 command: Some(command),
             };

@@ -4,18 +4,18 @@ ghost use Rattle.std.specs.Prelude.{◌≡◌, ◌≢◌, ◌≤◌, ◌<◌, �
 ghost use Rattle.std.specs.Prelude.{true, false, length, cond, IfOk, OnOk, OnErr, IfErr, IsErrOf};
 ghost use Rattle.ts_journal.specs.Settled.{EveryMoment, member_in, OneFailed};
 ghost use Rattle.ts_journal.specs.declared.journal.Stage.TheVariants.{Live, Closed, Begun, Copying};
-ghost use Rattle.ts_record.specs.declared.fault.Fault.TheVariants.{Memory, DiskFailed};
+ghost use Rattle.ts_record.specs.declared.fault.RecordFault.TheVariants.{Memory, DiskFailed};
 ghost use Rattle.ts_record.specs.declared.progress.Progress.TheVariants.{Working, Switched};
-ghost use Rattle.ts_record.specs.Compacted.{compacted};
+ghost use Rattle.ts_record.specs.Compacted.{compact};
 ghost use Rattle.ts_record.specs.Facts.{AllFit, encodings};
 ghost use Rattle.ts_record.specs.Kept.{Keeps, rewrite_of, course_of};
 ghost use Rattle.ts_record.specs.Record.{OpensToFrom, OpensToForce, ToBeforeOrAfter};
-ghost use Rattle.ts_record.specs.Rewrite.{idle, begun, copying, with_more, on, switched, IsLast};
+ghost use Rattle.ts_record.specs.Rewrite.{idle, begun, copying, with_more, on, switch, IsLast};
 ghost use Rattle.ts_record.specs.Rewrite.{Steps};
 
 use crate::compacted::compact;
 use crate::writing::{copies, copies_if, entry_of, entry_of_one, move_behind};
-use crate::{Fault, Progress};
+use crate::{Progress, RecordFault};
 use std::alloc::Global;
 use ts_disk::Disk;
 use ts_journal::{Journal, Stage};
@@ -31,13 +31,13 @@ pub(crate) struct Ledger<D: Disk, C: Codec> {
 }
 
 /// The first step: decides what is copied, and shuts the other disk.
-fn shut<D: Disk, C: Codec>(alloc: Global, c: &mut Ledger<D, C>) -> Result<(), Fault>
+fn shut<D: Disk, C: Codec>(alloc: Global, c: &mut Ledger<D, C>) -> Result<(), RecordFault>
     requires keeps { Keeps D.state C.octets c.old }
     requires idle { (c.old.journal.stage ≡ Live) ⊎ (c.old.journal.stage ≡ Closed) }
     requires not_last { c.old.journal.generation + 1 < 2 ^ 64 }
     ensures keeps { OnOk result (Keeps D.state C.octets c.new) }
     ensures course { OnOk result (course_of c.new
-        ≡ on (course_of c.old) (begun (compacted c.old.facts.items))) }
+        ≡ on (course_of c.old) (begun (compact c.old.facts.items))) }
     ensures refused { OnErr result (course_of c.new ≡ course_of c.old) }
     ensures owner { member_in c.new.journal ≡ member_in c.old.journal }
     ensures group { c.new.journal.group ≡ c.old.journal.group }
@@ -45,7 +45,7 @@ fn shut<D: Disk, C: Codec>(alloc: Global, c: &mut Ledger<D, C>) -> Result<(), Fa
         (OpensToFrom C.octets (member_in c.old.journal) c.old.journal.swapped c.old.facts.items)
         c.old.journal c.new.journal }
     ensures facts { c.new.facts ≡ c.old.facts }
-    ensures memory { IsErrOf result Fault.Memory → c.new ≡ c.old }
+    ensures memory { IsErrOf result RecordFault.Memory → c.new ≡ c.old }
     ensures fault { IfErr result (λ fault. (fault ≡ Memory)
         ⊎ ((fault ≡ DiskFailed) × OneFailed D.state c.old.journal c.new.journal)) }
 {
@@ -56,7 +56,7 @@ fn shut<D: Disk, C: Codec>(alloc: Global, c: &mut Ledger<D, C>) -> Result<(), Fa
 }
 
 /// The second step: writes the other disk's header.
-fn begin<D: Disk, C: Codec>(c: &mut Ledger<D, C>) -> Result<(), Fault>
+fn begin<D: Disk, C: Codec>(c: &mut Ledger<D, C>) -> Result<(), RecordFault>
     requires keeps { Keeps D.state C.octets c.old }
     requires begun { c.old.journal.stage ≡ Begun }
     ensures keeps { OnOk result (Keeps D.state C.octets c.new) }
@@ -78,7 +78,7 @@ fn begin<D: Disk, C: Codec>(c: &mut Ledger<D, C>) -> Result<(), Fault>
 }
 
 /// The third step: copies one fact, as an entry of its own.
-fn copy<D: Disk, C: Codec>(alloc: Global, c: &mut Ledger<D, C>) -> Result<(), Fault>
+fn copy<D: Disk, C: Codec>(alloc: Global, c: &mut Ledger<D, C>) -> Result<(), RecordFault>
     requires keeps { Keeps D.state C.octets c.old }
     requires copying { c.old.journal.stage ≡ Copying }
     requires left { c.old.done < length c.old.copy.items }
@@ -92,7 +92,7 @@ fn copy<D: Disk, C: Codec>(alloc: Global, c: &mut Ledger<D, C>) -> Result<(), Fa
         (OpensToFrom C.octets (member_in c.old.journal) c.old.journal.swapped c.old.facts.items)
         c.old.journal c.new.journal }
     ensures facts { c.new.facts ≡ c.old.facts }
-    ensures memory { IsErrOf result Fault.Memory → c.new ≡ c.old }
+    ensures memory { IsErrOf result RecordFault.Memory → c.new ≡ c.old }
     ensures fault { IfErr result (λ fault. (fault ≡ Memory)
         ⊎ ((fault ≡ DiskFailed) × OneFailed D.state c.old.journal c.new.journal)) }
 {
@@ -103,12 +103,12 @@ fn copy<D: Disk, C: Codec>(alloc: Global, c: &mut Ledger<D, C>) -> Result<(), Fa
 }
 
 /// The last step: uses the other disk.
-fn switch<D: Disk, C: Codec>(alloc: Global, c: &mut Ledger<D, C>) -> Result<(), Fault>
+fn switch<D: Disk, C: Codec>(alloc: Global, c: &mut Ledger<D, C>) -> Result<(), RecordFault>
     requires keeps { Keeps D.state C.octets c.old }
     requires copying { c.old.journal.stage ≡ Copying }
     requires none_left { c.old.done ≡ length c.old.copy.items }
     ensures keeps { OnOk result (Keeps D.state C.octets c.new) }
-    ensures course { OnOk result (course_of c.new ≡ switched (course_of c.old) c.old.copy.items) }
+    ensures course { OnOk result (course_of c.new ≡ switch (course_of c.old) c.old.copy.items) }
     ensures refused { OnErr result (course_of c.new ≡ course_of c.old) }
     ensures owner { member_in c.new.journal ≡ member_in c.old.journal }
     ensures group { c.new.journal.group ≡ c.old.journal.group }
@@ -128,7 +128,7 @@ fn switch<D: Disk, C: Codec>(alloc: Global, c: &mut Ledger<D, C>) -> Result<(), 
 pub(crate) fn step<D: Disk, C: Codec>(
     alloc: Global,
     c: &mut Ledger<D, C>,
-) -> Result<Progress, Fault>
+) -> Result<Progress, RecordFault>
     requires keeps { Keeps D.state C.octets c.old }
     requires not_last { c.old.journal.generation + 1 < 2 ^ 64 }
     ensures keeps { OnOk result (Keeps D.state C.octets c.new) }
@@ -144,7 +144,7 @@ pub(crate) fn step<D: Disk, C: Codec>(
         (member_in c.old.journal) c.old.journal.swapped c.old.facts.items) c.old.journal
         c.new.journal }
     ensures facts { IfErr result (λ fault. c.new.facts ≡ c.old.facts) }
-    ensures memory { IsErrOf result Fault.Memory → c.new ≡ c.old }
+    ensures memory { IsErrOf result RecordFault.Memory → c.new ≡ c.old }
     ensures fault { IfErr result (λ fault. (fault ≡ Memory)
         ⊎ ((fault ≡ DiskFailed) × OneFailed D.state c.old.journal c.new.journal)) }
 {
@@ -167,7 +167,7 @@ pub(crate) fn append<D: Disk, C: Codec>(
     alloc: Global,
     c: &mut Ledger<D, C>,
     facts: &[Fact<C>],
-) -> Result<(), Fault>
+) -> Result<(), RecordFault>
     requires keeps { Keeps D.state C.octets c.old }
     requires some { 0 < length facts.now }
     requires fit { AllFit C.octets facts.now }
@@ -184,7 +184,7 @@ pub(crate) fn append<D: Disk, C: Codec>(
         (ToBeforeOrAfter C.octets (member_in c.old.journal) c.old.journal.swapped
         c.old.facts.items facts.now) c.old.journal c.new.journal }
     ensures facts { IfErr result (λ fault. c.new.facts.items ≡ c.old.facts.items) }
-    ensures memory { IsErrOf result Fault.Memory
+    ensures memory { IsErrOf result RecordFault.Memory
         → (c.new.journal ≡ c.old.journal) × (c.new.copy.items ≡ c.old.copy.items)
         × (c.new.done ≡ c.old.done) }
     ensures fault { IfErr result (λ fault. (fault ≡ Memory)

@@ -48,6 +48,6 @@ mod reading;
 mod record;
 mod writing;
 
-pub use fault::Fault;
+pub use fault::RecordFault;
 pub use progress::Progress;
-pub use record::{Record, Refused};
+pub use record::{Record, RefusedRecord};

@@ -5,7 +5,7 @@ ghost use Rattle.std.specs.Prelude.{length, take, drop, MatchOption, MatchResult
 ghost use Rattle.ts_disk.specs.Disk.{DeviceFailed, EveryImage};
 ghost use Rattle.ts_journal.specs.Images.{Member, IsFresh, AnyPair, EveryPair};
 ghost use Rattle.ts_synod.specs.declared.message.Fact.{Fact};
-ghost use Rattle.ts_record.specs.declared.fault.Fault.TheVariants.{Memory, DiskFailed};
+ghost use Rattle.ts_record.specs.declared.fault.RecordFault.TheVariants.{Memory, DiskFailed};
 ghost use Rattle.ts_record.specs.Blocks.{version_1, IsRead};
 ghost use Rattle.ts_record.specs.Old.{old_head, IsOldOf, OpensOld, AllFactsOrNone};
 ghost use Rattle.ts_record.specs.Old.{IsMigrationFault};
@@ -14,7 +14,7 @@ ghost use Rattle.ts_record.specs.Record.{OpensToFrom};
 use crate::blocks::{Contents, read_blocks};
 use crate::layout::VERSION_1;
 use crate::opening::is_same;
-use crate::{Fault, Record};
+use crate::{Record, RecordFault};
 use std::alloc::Global;
 use ts_disk::Disk;
 use ts_journal::format_with;
@@ -51,7 +51,7 @@ struct OldRecord<C> {
 
 /// Reads the octets of a disk as a record of version 1. They are refused where they begin with no
 /// header of version 1, or what follows it can't be read.
-fn read_old<C: Codec>(alloc: Global, octets: &[u8]) -> Result<OldRecord<C>, Fault>
+fn read_old<C: Codec>(alloc: Global, octets: &[u8]) -> Result<OldRecord<C>, RecordFault>
     ensures owner { IfOk result (λ old. IsOldOf
         (record { node = old.node; nodes = old.nodes }) octets.now) }
     ensures read { IfOk result (λ old. IsRead C.octets version_1 octets.now
@@ -60,7 +60,7 @@ fn read_old<C: Codec>(alloc: Global, octets: &[u8]) -> Result<OldRecord<C>, Faul
         × IsMigrationFault C.octets octets.now ⊥ fault) }
 {
     let Some((node, nodes)) = old_owner(octets) else {
-        return Err(Fault::NotFormatted);
+        return Err(RecordFault::NotFormatted);
     };
     let contents = read_blocks(alloc, VERSION_1, octets)?;
     Ok(OldRecord {
@@ -71,12 +71,12 @@ fn read_old<C: Codec>(alloc: Global, octets: &[u8]) -> Result<OldRecord<C>, Faul
 }
 
 /// The number of facts. More than 2^32 - 1 are refused as out of memory.
-fn count<C>(facts: &[Fact<C>]) -> Result<u32, Fault>
+fn count<C>(facts: &[Fact<C>]) -> Result<u32, RecordFault>
     ensures value { IfOk result (λ count. count ≡ length facts.now) }
     ensures fault { IfErr result (λ fault. fault ≡ Memory) }
 {
     if facts.len() > u32::MAX as usize {
-        return Err(Fault::Memory);
+        return Err(RecordFault::Memory);
     }
     Ok(facts.len() as u32)
 }
@@ -90,7 +90,7 @@ impl<D: Disk, C: Codec> Record<D, C> {
     /// `NotFormatted` where the old disk has no header of version 1, `Damaged` where what follows
     /// it can't be read, and out of memory: the two disks are as they were. `DiskFailed`: two fresh
     /// disks hold no record, or the whole one.
-    pub fn migrate(alloc: Global, old: &mut D, a: &mut D, b: &mut D) -> Result<u32, Fault>
+    pub fn migrate(alloc: Global, old: &mut D, a: &mut D, b: &mut D) -> Result<u32, RecordFault>
         // Where the old disk opens to facts, each pair of images opens to them afterwards, as the
         // record of the same member, from the first disk; or memory or a device failed.
         ensures opens { (owner : Member) (facts : List (Fact C))

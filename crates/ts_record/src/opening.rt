@@ -4,14 +4,14 @@ ghost use Rattle.std.specs.Prelude.{◌≡◌, ◌≢◌, ◌≤◌, ◌⊎◌, 
 ghost use Rattle.std.specs.Prelude.{length, take, cond, IfOk, OnOk, IfErr};
 ghost use Rattle.ts_disk.specs.Disk.{IsDurable, DeviceFailed};
 ghost use Rattle.ts_journal.specs.Choice.{IsChosen, Unchosen};
-ghost use Rattle.ts_record.specs.declared.fault.Fault.TheVariants.{Memory, DiskFailed};
-ghost use Rattle.ts_record.specs.declared.fault.Fault.TheVariants.{NotFormatted, OldVersion};
-ghost use Rattle.ts_record.specs.declared.fault.Fault.TheVariants.{Damaged};
+ghost use Rattle.ts_record.specs.declared.fault.RecordFault.TheVariants.{Memory, DiskFailed};
+ghost use Rattle.ts_record.specs.declared.fault.RecordFault.TheVariants.{NotFormatted, OldVersion};
+ghost use Rattle.ts_record.specs.declared.fault.RecordFault.TheVariants.{Damaged};
 ghost use Rattle.ts_record.specs.Blocks.{version_2, IsRead};
 ghost use Rattle.ts_record.specs.Opening.{BeginsOld, IsRefused, IsFault, NothingNew};
 ghost use Rattle.ts_record.specs.Record.{EitherFailed};
 
-use crate::Fault;
+use crate::RecordFault;
 use crate::blocks::{Contents, read_blocks};
 use crate::layout::VERSION_2;
 use std::alloc::Global;
@@ -21,7 +21,7 @@ use ts_synod::Codec;
 
 /// The disk in use, and what is on it.
 #[derive(Drop)]
-pub(crate) struct Found<C> {
+pub(crate) struct FoundRecord<C> {
     pub choice: Choice,
     pub contents: Contents<C>,
 }
@@ -46,24 +46,24 @@ fn begins_old(octets: &[u8]) -> bool
 }
 
 /// Why no disk is in use.
-fn refusal(a: &[u8], b: &[u8]) -> Fault
+fn refusal(a: &[u8], b: &[u8]) -> RecordFault
     requires { Unchosen a.now b.now }
     ensures { IsRefused a.now b.now result }
 {
     let second = look_at(b);
     if begins_old(a) && !matches!(second, Look::Right(_)) {
-        Fault::OldVersion
+        RecordFault::OldVersion
     } else {
-        Fault::NotFormatted
+        RecordFault::NotFormatted
     }
 }
 
 /// Syncs both disks and reads them: each octet once.
-pub(crate) fn opened<D: Disk, C: Codec>(
+pub(crate) fn open_disks<D: Disk, C: Codec>(
     alloc: Global,
     a: &mut D,
     b: &mut D,
-) -> Result<Found<C>, Fault>
+) -> Result<FoundRecord<C>, RecordFault>
     ensures durable_a { OnOk result (IsDurable (D.state a.new)) }
     ensures durable_b { OnOk result (IsDurable (D.state b.new)) }
     ensures moments { NothingNew (D.state a.old) (D.state b.old) (D.state a.new) (D.state b.new) }
@@ -86,5 +86,5 @@ pub(crate) fn opened<D: Disk, C: Codec>(
     };
     let image = if choice.swapped { &second } else { &first };
     let contents = read_blocks(alloc, VERSION_2, image)?;
-    Ok(Found { choice, contents })
+    Ok(FoundRecord { choice, contents })
 }

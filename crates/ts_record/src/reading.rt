@@ -4,11 +4,11 @@ ghost use Rattle.std.specs.Prelude.{◌≡◌, ◌⊎◌, ◌≤◌, ◌<◌, �
 ghost use Rattle.std.specs.Prelude.{drop, take, MatchOption, MatchResult, IfSome, IfOk, OnOk};
 ghost use Rattle.std.specs.Prelude.{Option, true, false};
 ghost use Rattle.std.specs.Int.{to_be_bytes, w32, w64};
-ghost use Rattle.ts_record.specs.Facts.{IsPosition, IsRound, IsBallot, IsBlob, blob, encoding};
-ghost use Rattle.ts_record.specs.Facts.{encodings, Fits, AllFit, Begins, FactOrNot};
+ghost use Rattle.ts_record.specs.Facts.{IsPosition, IsRound, IsBallot, IsBlob, blob, fact_encoding};
+ghost use Rattle.ts_record.specs.Facts.{encodings, FactFits, AllFit, Begins, FactOrNot};
 ghost use Rattle.ts_synod.specs.declared.message.Fact.{Fact};
 
-use crate::known::Known;
+use crate::known::KnownFacts;
 use std::alloc::{AllocError, Global};
 use ts_synod::{Codec, Fact};
 
@@ -96,7 +96,7 @@ fn blob_at(rest: &[u8]) -> Option<usize>
 fn command_at<'a, C: Codec>(
     alloc: Global,
     rest: &'a [u8],
-    known: &mut Known<'a, C>,
+    known: &mut KnownFacts<'a, C>,
 ) -> Result<Option<(C, usize)>, AllocError>
     ensures { IfOk result (λ found. MatchOption found
         ((command : C) (after : List ℕ) → IsBlob (C.octets command)
@@ -138,7 +138,7 @@ fn promised_at<C: Codec>(fields: &[u8]) -> Option<(Fact<C>, usize)>
 fn vote_at<'a, C: Codec>(
     alloc: Global,
     rest: &'a [u8],
-    known: &mut Known<'a, C>,
+    known: &mut KnownFacts<'a, C>,
 ) -> Result<Option<(u64, C, usize)>, AllocError>
     ensures { IfOk result (λ found. MatchOption found
         ((ballot : ℕ) (command : C) (after : List ℕ) → IsBallot ballot → IsBlob (C.octets command)
@@ -160,7 +160,7 @@ fn vote_at<'a, C: Codec>(
 fn took_at<'a, C: Codec>(
     alloc: Global,
     fields: &'a [u8],
-    known: &mut Known<'a, C>,
+    known: &mut KnownFacts<'a, C>,
 ) -> Result<Option<(Fact<C>, usize)>, AllocError>
     ensures { IfOk result (λ found. FactOrNot C.octets 3 fields.now found) }
 {
@@ -185,7 +185,7 @@ fn took_at<'a, C: Codec>(
 fn chosen_at<'a, C: Codec>(
     alloc: Global,
     fields: &'a [u8],
-    known: &mut Known<'a, C>,
+    known: &mut KnownFacts<'a, C>,
 ) -> Result<Option<(Fact<C>, usize)>, AllocError>
     ensures { IfOk result (λ found. FactOrNot C.octets 4 fields.now found) }
 {
@@ -202,7 +202,7 @@ fn chosen_at<'a, C: Codec>(
 fn fact_at<'a, C: Codec>(
     alloc: Global,
     rest: &'a [u8],
-    known: &mut Known<'a, C>,
+    known: &mut KnownFacts<'a, C>,
 ) -> Result<Option<(Fact<C>, usize)>, AllocError>
     ensures { IfOk result (λ found. Begins C.octets rest.now found) }
 {
@@ -224,7 +224,7 @@ pub(crate) fn read_facts<'a, C: Codec>(
     alloc: Global,
     body: &'a [u8],
     facts: &mut Vec<Fact<C>>,
-    known: &mut Known<'a, C>,
+    known: &mut KnownFacts<'a, C>,
 ) -> Result<bool, AllocError>
     ensures found { IfOk result (λ found. found ≡ true
         → (more : List (Fact C)) × AllFit C.octets more

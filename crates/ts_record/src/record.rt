@@ -5,8 +5,9 @@ ghost use Rattle.std.specs.Prelude.{length, IfOk, OnOk, OnErr, IfErr, MatchResul
 ghost use Rattle.std.specs.Prelude.{cond};
 ghost use Rattle.ts_disk.specs.Disk.{IsDurable, DeviceFailed};
 ghost use Rattle.ts_journal.specs.Images.{head, Member, AnyPair, EveryPair};
-ghost use Rattle.ts_record.specs.declared.fault.Fault.TheVariants.{Memory, DiskFailed, Broken};
-ghost use Rattle.ts_record.specs.declared.fault.Fault.TheVariants.{GenerationsExhausted};
+ghost use Rattle.ts_record.specs.declared.fault.RecordFault.TheVariants.{Memory, DiskFailed};
+ghost use Rattle.ts_record.specs.declared.fault.RecordFault.TheVariants.{Broken};
+ghost use Rattle.ts_record.specs.declared.fault.RecordFault.TheVariants.{GenerationsExhausted};
 ghost use Rattle.ts_record.specs.Facts.{AllFit, encodings, OpensTo};
 ghost use Rattle.ts_journal.specs.Choice.{header_of_owner, IsLive, IsOther, IsChosen};
 ghost use Rattle.ts_journal.specs.declared.choice.Choice.{Choice};
@@ -20,8 +21,8 @@ ghost use Rattle.ts_synod.specs.Force.{SameForce};
 
 use crate::blocks::Contents;
 use crate::ledger::{Ledger, append, step};
-use crate::opening::{Found, opened};
-use crate::{Fault, Progress};
+use crate::opening::{FoundRecord, open_disks};
+use crate::{Progress, RecordFault};
 use std::alloc::Global;
 use std::marker::Model;
 use ts_disk::Disk;
@@ -37,9 +38,9 @@ pub struct Record<D: Disk, C: Codec> {
 
 impl<D: Disk, C: Codec> Model for Record<D, C> {
     ghost use Rattle.std.specs.Prelude.{◌≡◌, false};
-    ghost use Rattle.ts_record.specs.Kept.{Kept, Keeps, kept_of};
+    ghost use Rattle.ts_record.specs.Kept.{KeptRecord, Keeps, kept_of};
 
-    ghost Value = { Kept D C };
+    ghost Value = { KeptRecord D C };
 
     ghost view = { λ r. kept_of r.ledger r.broken };
 
@@ -48,8 +49,8 @@ impl<D: Disk, C: Codec> Model for Record<D, C> {
 
 /// Why a record was not opened, and its two disks.
 #[derive(Drop)]
-pub struct Refused<D: Disk> {
-    pub fault: Fault,
+pub struct RefusedRecord<D: Disk> {
+    pub fault: RecordFault,
     pub a: D,
     pub b: D,
 }
@@ -59,7 +60,7 @@ fn record_of<D: Disk, C: Codec>(
     alloc: Global,
     current: D,
     spare: D,
-    found: Found<C>,
+    found: FoundRecord<C>,
 ) -> Record<D, C>
     requires live { IsLive (header_of_owner found.choice.owner) (D.state current).read }
     requires other { IsOther found.choice.stage (header_of_owner found.choice.owner)
@@ -81,7 +82,7 @@ fn record_of<D: Disk, C: Codec>(
     ensures opens { AnyPair (OpensToFrom C.octets (member result) result.swapped result.facts)
         (D.state result.a) (D.state result.b) }
 {
-    let Found { choice, contents } = found;
+    let FoundRecord { choice, contents } = found;
     let Contents { facts, end } = contents;
     let journal = Journal {
         current,
@@ -110,7 +111,7 @@ impl<D: Disk, C: Codec> Record<D, C> {
     /// Writes an empty record of a node of a group on two disks, and syncs both. The first is live,
     /// of generation 1; the second is shut, of generation 0. Group 0 is none: its record tells
     /// nobody whose it is.
-    pub fn format(a: &mut D, b: &mut D, node: u8, nodes: u8, group: u32) -> Result<(), Fault>
+    pub fn format(a: &mut D, b: &mut D, node: u8, nodes: u8, group: u32) -> Result<(), RecordFault>
         requires node_from { 1 ≤ node }
         requires node_to { node ≤ nodes }
         requires nodes_to { nodes ≤ 9 }
@@ -133,7 +134,7 @@ impl<D: Disk, C: Codec> Record<D, C> {
 
     /// Opens the record on two disks, which are synced and read first. Refused, it gives the disks
     /// back.
-    pub fn open(alloc: Global, a: D, b: D) -> Result<Record<D, C>, Refused<D>>
+    pub fn open(alloc: Global, a: D, b: D) -> Result<Record<D, C>, RefusedRecord<D>>
         // Each pair of images that a crash may leave opens to the facts, from the disk in use.
         ensures opens { IfOk result (λ opened. AnyPair
             (OpensToFrom C.octets (member opened) opened.swapped opened.facts) (D.state opened.a)
@@ -174,7 +175,7 @@ impl<D: Disk, C: Codec> Record<D, C> {
         let mut a = a;
         let mut b = b;
         C::one_encoding();
-        match opened(alloc, &mut a, &mut b) {
+        match open_disks(alloc, &mut a, &mut b) {
             Ok(found) => {
                 if found.choice.swapped {
                     Ok(record_of(alloc, b, a, found))
@@ -182,7 +183,7 @@ impl<D: Disk, C: Codec> Record<D, C> {
                     Ok(record_of(alloc, a, b, found))
                 }
             }
-            Err(fault) => Err(Refused { fault, a, b }),
+            Err(fault) => Err(RefusedRecord { fault, a, b }),
         }
     }
 
@@ -243,7 +244,7 @@ impl<D: Disk, C: Codec> Record<D, C> {
 
     /// Keeps facts, all of them or none, by four calls of the disk in use. Memory is reserved
     /// before the first of them. Of no facts it makes no call.
-    pub fn append(&mut self, alloc: Global, facts: &[Fact<C>]) -> Result<(), Fault>
+    pub fn append(&mut self, alloc: Global, facts: &[Fact<C>]) -> Result<(), RecordFault>
         requires fit { AllFit C.octets facts.now }
         requires short { length (encodings C.octets facts.now) ≤ 4194500 }
 
@@ -274,18 +275,18 @@ impl<D: Disk, C: Codec> Record<D, C> {
 
         ensures fault { IfErr result (λ fault. (fault ≡ Memory) ⊎ (fault ≡ DiskFailed)
             ⊎ (fault ≡ Broken)) }
-        ensures memory { IsErrOf result Fault.Memory → self.new ≡ self.old }
-        ensures failed { IsErrOf result Fault.DiskFailed
+        ensures memory { IsErrOf result RecordFault.Memory → self.new ≡ self.old }
+        ensures failed { IsErrOf result RecordFault.DiskFailed
             → (self.new.broken ≡ true) × (self.new.facts ≡ self.old.facts)
             × EitherFailed (D.state self.old.a) (D.state self.old.b) (D.state self.new.a)
             (D.state self.new.b) }
-        ensures broken { IsErrOf result Fault.Broken
+        ensures broken { IsErrOf result RecordFault.Broken
             → (self.old.broken ≡ true) × (self.new ≡ self.old) }
-        ensures stays { self.old.broken ≡ true → IsErrOf result Fault.Broken }
+        ensures stays { self.old.broken ≡ true → IsErrOf result RecordFault.Broken }
         ensures whole { OnOk result (self.new.broken ≡ false) }
     {
         if self.broken {
-            return Err(Fault::Broken);
+            return Err(RecordFault::Broken);
         }
         if facts.is_empty() {
             return Ok(());
@@ -300,7 +301,7 @@ impl<D: Disk, C: Codec> Record<D, C> {
     /// header, of the next generation; then each copies a fact, as an entry of its own; and the
     /// last one sets the live byte, so that the record is on that disk. Facts may be appended
     /// between two steps, and are copied too. Memory is reserved before the first device call.
-    pub fn compact(&mut self, alloc: Global) -> Result<Progress, Fault>
+    pub fn compact(&mut self, alloc: Global) -> Result<Progress, RecordFault>
         ensures steps { IfOk result (λ answer. Steps (course self.old) answer (course self.new)) }
 
         ensures owner { member self.new ≡ member self.old }
@@ -331,25 +332,25 @@ impl<D: Disk, C: Codec> Record<D, C> {
 
         ensures fault { IfErr result (λ fault. (fault ≡ Memory) ⊎ (fault ≡ DiskFailed)
             ⊎ (fault ≡ Broken) ⊎ (fault ≡ GenerationsExhausted)) }
-        ensures memory { IsErrOf result Fault.Memory → self.new ≡ self.old }
-        ensures failed { IsErrOf result Fault.DiskFailed
+        ensures memory { IsErrOf result RecordFault.Memory → self.new ≡ self.old }
+        ensures failed { IsErrOf result RecordFault.DiskFailed
             → (self.new.broken ≡ true) × (self.new.facts ≡ self.old.facts)
             × EitherFailed (D.state self.old.a) (D.state self.old.b) (D.state self.new.a)
             (D.state self.new.b) }
-        ensures broken { IsErrOf result Fault.Broken
+        ensures broken { IsErrOf result RecordFault.Broken
             → (self.old.broken ≡ true) × (self.new ≡ self.old) }
-        ensures stays { self.old.broken ≡ true → IsErrOf result Fault.Broken }
-        ensures exhausted { IsErrOf result Fault.GenerationsExhausted
+        ensures stays { self.old.broken ≡ true → IsErrOf result RecordFault.Broken }
+        ensures exhausted { IsErrOf result RecordFault.GenerationsExhausted
             → (self.old.generation + 1 ≡ 2 ^ 64) × (self.new ≡ self.old) }
         ensures last { self.old.broken ≡ false → self.old.generation + 1 ≡ 2 ^ 64
-            → IsErrOf result Fault.GenerationsExhausted }
+            → IsErrOf result RecordFault.GenerationsExhausted }
         ensures whole { OnOk result (self.new.broken ≡ false) }
     {
         if self.broken {
-            return Err(Fault::Broken);
+            return Err(RecordFault::Broken);
         }
         if self.ledger.journal.generation == u64::MAX {
-            return Err(Fault::GenerationsExhausted);
+            return Err(RecordFault::GenerationsExhausted);
         }
         let answer = step(alloc, &mut self.ledger);
         self.broken = is_failure(&answer);
@@ -358,9 +359,9 @@ impl<D: Disk, C: Codec> Record<D, C> {
 }
 
 /// Whether a device failed in the call.
-fn is_failure<T>(answer: &Result<T, Fault>) -> bool
-    ensures failed { result ≡ true → IsErrOf answer.now Fault.DiskFailed }
-    ensures others { result ≡ false → IsErrOf answer.now Fault.DiskFailed → ⊥ }
+fn is_failure<T>(answer: &Result<T, RecordFault>) -> bool
+    ensures failed { result ≡ true → IsErrOf answer.now RecordFault.DiskFailed }
+    ensures others { result ≡ false → IsErrOf answer.now RecordFault.DiskFailed → ⊥ }
 {
-    matches!(answer, Err(Fault::DiskFailed))
+    matches!(answer, Err(RecordFault::DiskFailed))
 }

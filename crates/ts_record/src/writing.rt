@@ -4,7 +4,7 @@ ghost use Rattle.std.specs.Prelude.{◌≡◌, ◌≤◌, ◌+◌, ◌^◌, ◌<
 ghost use Rattle.std.specs.Prelude.{◌∷◌, vec_len, vec_capacity};
 ghost use Rattle.std.specs.Int.{to_be_bytes, w32};
 ghost use Rattle.ts_journal.specs.Images.{entry};
-ghost use Rattle.ts_record.specs.Facts.{blob, encoding, encodings};
+ghost use Rattle.ts_record.specs.Facts.{blob, fact_encoding, encodings};
 
 use std::alloc::{AllocError, Global};
 use ts_synod::{Codec, Fact};
@@ -79,8 +79,8 @@ fn push_encoding<C: Codec>(
     out: &mut Vec<u8>,
     fact: &Fact<C>,
 ) -> Result<(), AllocError>
-    requires { length (encoding C.octets fact.now) < 2 ^ 32 }
-    ensures { OnOk result (out.new.items ≡ out.old.items ++ encoding C.octets fact.now) }
+    requires { length (fact_encoding C.octets fact.now) < 2 ^ 32 }
+    ensures { OnOk result (out.new.items ≡ out.old.items ++ fact_encoding C.octets fact.now) }
 {
     match fact {
         Fact::Used { round } => push_kind(out, 1, *round)?,
@@ -106,7 +106,7 @@ fn push_encoding<C: Codec>(
 }
 
 /// The encodings of facts, one after another.
-fn encoded<C: Codec>(alloc: Global, facts: &[Fact<C>]) -> Result<Vec<u8>, AllocError>
+fn encodings_of<C: Codec>(alloc: Global, facts: &[Fact<C>]) -> Result<Vec<u8>, AllocError>
     requires { length (encodings C.octets facts.now) < 2 ^ 32 }
     ensures { IfOk result (λ octets. octets.items ≡ encodings C.octets facts.now) }
 {
@@ -118,7 +118,7 @@ fn encoded<C: Codec>(alloc: Global, facts: &[Fact<C>]) -> Result<Vec<u8>, AllocE
 }
 
 /// What follows the commit byte of an entry: its length, its octets, and a clear commit byte.
-fn framed(alloc: Global, body: &[u8]) -> Result<Vec<u8>, AllocError>
+fn framed_entry(alloc: Global, body: &[u8]) -> Result<Vec<u8>, AllocError>
     requires { length body.now ≤ 4194500 }
     ensures { IfOk result (λ octets. octets.items ≡ entry body.now) }
 {
@@ -133,18 +133,18 @@ pub(crate) fn entry_of<C: Codec>(alloc: Global, facts: &[Fact<C>]) -> Result<Vec
     requires { length (encodings C.octets facts.now) ≤ 4194500 }
     ensures { IfOk result (λ octets. octets.items ≡ entry (encodings C.octets facts.now)) }
 {
-    let body = encoded(alloc, facts)?;
-    let out = framed(alloc, &body)?;
+    let body = encodings_of(alloc, facts)?;
+    let out = framed_entry(alloc, &body)?;
     Ok(out)
 }
 
 /// What follows the commit byte of an entry of one fact.
 pub(crate) fn entry_of_one<C: Codec>(alloc: Global, fact: &Fact<C>) -> Result<Vec<u8>, AllocError>
-    requires { length (encoding C.octets fact.now) ≤ 4194500 }
-    ensures { IfOk result (λ octets. octets.items ≡ entry (encoding C.octets fact.now)) }
+    requires { length (fact_encoding C.octets fact.now) ≤ 4194500 }
+    ensures { IfOk result (λ octets. octets.items ≡ entry (fact_encoding C.octets fact.now)) }
 {
     let mut body = Vec::new(alloc);
     push_encoding(alloc, &mut body, fact)?;
-    let out = framed(alloc, &body)?;
+    let out = framed_entry(alloc, &body)?;
     Ok(out)
 }

@@ -23,6 +23,8 @@ of_octets octets purposes Any is told = (purposes, is, told)
 of_octets octets purposes (These texts) is told = (purposes, is, told)
 of_octets octets purposes Unknown is told = tt
 
-pub told_all : {E : Type 0} (r : Result PurposeFields E) (octets : List ℕ) (purposes : Option (List (List ℕ))) → octets ≡ purposes_encoding purposes → IfOk r (AreTold purposes) → IfOk r (ArePurposes octets)
+pub told_all : {E : Type 0} (r : Result PurposeFields E) (octets : List ℕ)
+    (purposes : Option (List (List ℕ))) → octets ≡ purposes_encoding purposes
+    → IfOk r (AreTold purposes) → IfOk r (ArePurposes octets)
 told_all (Ok fields) octets purposes is told = of_octets octets purposes fields is told
 told_all (Err e) octets purposes is told = told

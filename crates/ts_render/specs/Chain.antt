@@ -1,7 +1,7 @@
 -- The certificates of a question, and which of them is not good.
 use Rattle.std.specs.Prelude.{◌≡◌, ◌+◌, ◌==◌, ℕ, Bool, false, List, [], ◌∷◌, Option, Some, None}
 use Rattle.std.specs.Prelude.{string_bytes}
-use Rattle.ts_question.specs.Question.{Asked}
+use Rattle.ts_question.specs.Question.{StoreQuestion}
 use Rattle.ts_question.specs.declared.question.Target.{Target}
 use Rattle.ts_question.specs.declared.question.Target.TheVariants as target
 use Rattle.ts_question.specs.declared.reply.Reply.{Reply}
@@ -14,7 +14,7 @@ of_target (target.Chain anchor certificates) = certificates
 of_target (target.Search certificates) = certificates
 of_target other = []
 
-abbrev pub certificates_in : Asked → List (List ℕ)
+abbrev pub certificates_in : StoreQuestion → List (List ℕ)
 certificates_in asked = of_target asked.target
 
 -- the place that a reply names as not good, counted from 1

@@ -4,18 +4,15 @@ use Rattle.std.specs.Prelude.{string_bytes}
 use Rattle.base64.specs.Engines.{standard}
 use Rattle.base64.specs.GeneralPurpose.{encode_of}
 use Rattle.hex.specs.Hex.{encode_lower}
-use Rattle.ts_path.specs.Printed.{reason_text}
-use Rattle.ts_path.specs.declared.reason.Reason.{Reason as PathReason}
+use Rattle.ts_reason.specs.Printed.{reason_text}
 use Rattle.ts_report.specs.Fields.{section}
-use Rattle.ts_answer.specs.Reply.{SaysReason}
 use Rattle.ts_json.specs.declared.answer.AnswerFields.{AnswerFields}
-use Rattle.ts_question.specs.Question.{Asked, encoding}
-use Rattle.ts_question.specs.Reply.{Answered}
-use Rattle.ts_question.specs.declared.reason.Reason.{Reason}
+use Rattle.ts_question.specs.Question.{StoreQuestion, question_encoding}
+use Rattle.ts_question.specs.Reply.{NumberedReply}
 use Rattle.ts_question.specs.declared.reply.Reply.{Reply}
 use Rattle.ts_question.specs.declared.reply.Reply.TheVariants.{Valid, Invalid, Found}
 use Rattle.ts_render.specs.Replies.{name_of, position_in, prefix_in, valid_in}
-use Rattle.ts_render.specs.Texts.{IsPrintable, TellsMoment, written}
+use Rattle.ts_render.specs.Texts.{IsPrintable, TellsMoment, dotted_form}
 
 abbrev pub anchor_in : Reply → Option (List ℕ)
 anchor_in (Valid anchor policies) = Some anchor
@@ -31,26 +28,20 @@ abbrev pub places_in : Reply → List ℕ
 places_in (Found anchor places policies) = places
 places_in other = []
 
--- the text of the reason of path validation that a reason says, and its section
-abbrev pub TellsReason : Reason → List ℕ → Type 0
-TellsReason reason text = (said : PathReason) × SaysReason reason said × (text ≡ reason_text said)
-
-abbrev pub TellsSection : Reason → List ℕ → Type 0
-TellsSection reason text = (said : PathReason) × SaysReason reason said × (text ≡ section said)
-
 -- the reason and the section, of a reply that gives one
 abbrev pub AreWords : Reply → Option (List ℕ) → Option (List ℕ) → Type 0
-AreWords (Invalid position reason) (Some name) (Some place) = TellsReason reason name
-    × TellsSection reason place
+AreWords (Invalid position reason) (Some name) (Some place) = (name ≡ reason_text reason)
+    × (place ≡ section reason)
 AreWords (Invalid position reason) name place = ⊥
 AreWords other name place = (name ≡ None) × (place ≡ None)
 
-pub record AreFields (asked : Asked) (answered : Answered) (id : List ℕ) (fields : AnswerFields)
+pub record AreFields (asked : StoreQuestion) (answered : NumberedReply) (id : List ℕ)
+    (fields : AnswerFields)
     : Type 0 where
   pub k_is : fields.k ≡ answered.k
   pub at_is : TellsMoment asked.terms.moment (option_map string_bytes fields.at)
   pub id_is : string_bytes fields.id ≡ encode_lower id
-  pub question_is : string_bytes fields.question ≡ encode_of standard (encoding asked)
+  pub question_is : string_bytes fields.question ≡ encode_of standard (question_encoding asked)
   pub reply_is : fields.reply.now ≡ name_of answered.reply
   pub valid_is : fields.valid ≡ valid_in answered.reply
   pub position_is : fields.position ≡ position_in answered.reply
@@ -59,7 +50,7 @@ pub record AreFields (asked : Asked) (answered : Answered) (id : List ℕ) (fiel
   pub anchor_is : option_map string_bytes fields.anchor
       ≡ option_map encode_lower (anchor_in answered.reply)
   pub policies_are : map string_bytes fields.policies.items
-      ≡ map written (policies_in answered.reply)
+      ≡ map dotted_form (policies_in answered.reply)
   pub places_are : fields.places.items ≡ places_in answered.reply
   pub prefix_is : fields.prefix ≡ prefix_in answered.reply
   pub explanation : IsPrintable (string_bytes fields.explanation)

@@ -3,7 +3,7 @@ use Rattle.std.specs.Prelude.{ℕ, List, [], ◌∷◌, Option, Some, None, map,
 use Rattle.std.specs.Prelude.{is_some, string_bytes, if◌then◌else◌}
 use Rattle.serde_json.specs.Data.{Data, null, string}
 use Rattle.ts_json.specs.Answer.{whole}
-use Rattle.ts_json.specs.Members.{Named}
+use Rattle.ts_json.specs.Members.{NamedValue}
 use Rattle.ts_json.specs.Object.{array_of, text_or_null}
 use Rattle.ts_render.specs.declared.rows.PurposeFields.{PurposeFields}
 use Rattle.ts_render.specs.declared.rows.PurposeFields.TheVariants.{Any, These, Unknown}
@@ -19,13 +19,13 @@ data_of_purposes Any = null
 data_of_purposes (These texts) = array_of (map string_bytes texts.items)
 data_of_purposes Unknown = string (codes "unknown")
 
-abbrev pub anchor_members : AnchorFields → List Named
+abbrev pub anchor_members : AnchorFields → List NamedValue
 anchor_members f = (codes "kind", string (codes "anchor"))
     ∷ (codes "id", string (string_bytes f.id))
     ∷ (codes "subject", string (string_bytes f.subject))
     ∷ (codes "purposes", data_of_purposes f.purposes) ∷ []
 
-abbrev pub crl_members : CrlFields → List Named
+abbrev pub crl_members : CrlFields → List NamedValue
 crl_members f =
     (codes "kind", string (if is_some f.base then codes "delta" else codes "crl"))
     ∷ (codes "id", string (string_bytes f.id))
@@ -39,11 +39,11 @@ crl_members f =
     ∷ (codes "octets", whole f.octets) ∷ []
 
 -- of a command that sets purposes
-abbrev pub set_members : Option PurposeFields → List Named
+abbrev pub set_members : Option PurposeFields → List NamedValue
 set_members None = []
 set_members (Some purposes) = (codes "purposes", data_of_purposes purposes) ∷ []
 
-abbrev pub command_members : ℕ → CommandFields → List Named
+abbrev pub command_members : ℕ → CommandFields → List NamedValue
 command_members place f = (codes "position", whole place)
     ∷ (codes "id", string (string_bytes f.id))
     ∷ (codes "kind", text_or_null (option_map (λ word. word.now) f.kind))
@@ -51,7 +51,7 @@ command_members place f = (codes "position", whole place)
     ∷ (codes "about", text_or_null (option_map string_bytes f.about))
     ∷ (codes "octets", whole f.octets) ∷ set_members f.purposes
 
-abbrev pub members_of_row : ℕ → RowFields → List Named
+abbrev pub members_of_row : ℕ → RowFields → List NamedValue
 members_of_row place (Anchor fields) = anchor_members fields
 members_of_row place (Crl fields) = crl_members fields
 members_of_row place (Command fields) = command_members place fields

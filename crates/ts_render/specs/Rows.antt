@@ -7,7 +7,7 @@ use Rattle.ts_question.specs.Rows.{AnchorLine, AnchorFits, anchor_encoding}
 use Rattle.ts_question.specs.Rows.{CrlLine, CrlFits, crl_encoding}
 use Rattle.ts_question.specs.Rows.{CommandLine, CommandFits, command_encoding}
 use Rattle.ts_render.specs.Outcomes.{kind_word, outcome_of, outcome_words}
-use Rattle.ts_render.specs.Texts.{IsPrintable, IsTold, TellsMoment, hex_or_none, written}
+use Rattle.ts_render.specs.Texts.{IsPrintable, IsTold, TellsMoment, hex_or_none, dotted_form}
 use Rattle.ts_render.specs.declared.rows.PurposeFields.{PurposeFields}
 use Rattle.ts_render.specs.declared.rows.PurposeFields.TheVariants.{Any, These, Unknown}
 use Rattle.ts_render.specs.declared.rows.AnchorFields.{AnchorFields}
@@ -21,7 +21,7 @@ use Rattle.ts_render.specs.declared.rows.RowFields.TheVariants.{Anchor, Crl, Com
 -- the fields of purposes, as a command has them: none for any, or object identifiers
 abbrev pub AreTold : Option (List (List ℕ)) → PurposeFields → Type 0
 AreTold None Any = Unit {0}
-AreTold (Some oids) (These texts) = map string_bytes texts.items ≡ map written oids
+AreTold (Some oids) (These texts) = map string_bytes texts.items ≡ map dotted_form oids
 AreTold purposes fields = ⊥
 
 -- the octets of a command that sets these purposes

@@ -2,7 +2,7 @@
 use Rattle.std.specs.Prelude.{◌≡◌, ℕ, ℤ, List, [], ◌∷◌, true, Option, Some, None}
 use Rattle.std.specs.List.{list_all}
 use Rattle.hex.specs.Hex.{encode_lower}
-use Rattle.ts_der.specs.Dotted.{dotted}
+use Rattle.ts_der.specs.Dotted.{dotted_text}
 use Rattle.ts_der.specs.ObjectIdentifier.{arcs}
 use Rattle.ts_show.specs.Lines.{is_printable}
 use Rattle.ts_time.specs.Text.{IsGeneral}
@@ -11,8 +11,8 @@ abbrev pub IsPrintable : List ℕ → Type 0
 IsPrintable text = list_all is_printable text ≡ true
 
 -- the dotted form of an object identifier's contents octets
-abbrev pub written : List ℕ → List ℕ
-written content = dotted (arcs content)
+abbrev pub dotted_form : List ℕ → List ℕ
+dotted_form content = dotted_text (arcs content)
 
 -- the moment as a GeneralizedTime, if there is one of it
 abbrev pub TellsMoment : ℤ → Option (List ℕ) → Type 0

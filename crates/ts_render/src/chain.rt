@@ -45,7 +45,11 @@ fn failing_in(reply: &Reply) -> Option<usize>
 }
 
 /// What is shown of a certificate.
-fn shown(alloc: Global, octets: &[u8], fails: bool) -> Result<CertificateFields, AllocError>
+fn certificate_fields(
+    alloc: Global,
+    octets: &[u8],
+    fails: bool,
+) -> Result<CertificateFields, AllocError>
     ensures { IfOk result (λ fields. IsPrintable (string_bytes fields.subject)
         × (fields.fails ≡ fails)) }
 {
@@ -84,7 +88,7 @@ pub fn chain_fields(
     let mut all = Vec::new(alloc);
     for (place, octets) in certificates_in(question).iter().enumerate() {
         let fails = failing == Some(place + 1);
-        all.push(shown(alloc, octets, fails)?)?;
+        all.push(certificate_fields(alloc, octets, fails)?)?;
     }
     Ok(all)
 }

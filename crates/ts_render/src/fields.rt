@@ -4,35 +4,38 @@ ghost use Rattle.std.specs.Prelude.{◌≡◌, IfOk, map, option_map, string_byt
 ghost use Rattle.hex.specs.Hex.{encode_lower};
 ghost use Rattle.base64.specs.Engines.{standard};
 ghost use Rattle.base64.specs.GeneralPurpose.{encode_of};
-ghost use Rattle.ts_question.specs.Question.{encoding};
-ghost use Rattle.ts_render.specs.Fields.{AreFields, AreWords, TellsReason};
-ghost use Rattle.ts_render.specs.Fields.{TellsSection, anchor_in, places_in, policies_in};
-ghost use Rattle.ts_render.specs.Texts.{IsPrintable, written};
+ghost use Rattle.ts_question.specs.Question.{question_encoding};
+ghost use Rattle.ts_reason.specs.Printed.{reason_text};
+ghost use Rattle.ts_report.specs.Fields.{section as section_of};
+ghost use Rattle.ts_render.specs.Fields.{AreFields, AreWords, anchor_in, places_in};
+ghost use Rattle.ts_render.specs.Fields.{policies_in};
+ghost use Rattle.ts_render.specs.Texts.{IsPrintable, dotted_form};
 
 use crate::replies::{name_of, position_in, prefix_in, valid_in};
 use crate::rows::all_dotted;
 use crate::text::{moment_text, text_of};
 use base64::engine::general_purpose::STANDARD;
 use std::alloc::{AllocError, Global};
-use ts_explain::{explained, reason_of};
+use ts_der::Oid;
+use ts_explain::explanation;
 use ts_json::AnswerFields;
-use ts_question::{Answer, Question, Reason, Reply};
+use ts_question::{Answer, Question, Reply};
+use ts_reason::Reason;
 use ts_report::section;
 
 /// The name of a reason.
-fn reason_name(alloc: Global, reason: &Reason) -> Result<String, AllocError>
-    ensures { IfOk result (λ text. TellsReason reason.now (string_bytes text)) }
+fn reason_name(alloc: Global, reason: &Reason<Oid>) -> Result<String, AllocError>
+    ensures { IfOk result (λ text. string_bytes text ≡ reason_text reason.now) }
 {
-    let reason = reason_of(reason);
+    let reason = reason.as_ref();
     format!(in alloc; "{reason}")
 }
 
 /// The section of a reason.
-fn section_name(alloc: Global, reason: &Reason) -> Result<String, AllocError>
-    ensures { IfOk result (λ text. TellsSection reason.now (string_bytes text)) }
+fn section_name(alloc: Global, reason: &Reason<Oid>) -> Result<String, AllocError>
+    ensures { IfOk result (λ text. string_bytes text ≡ section_of reason.now) }
 {
-    let reason = reason_of(reason);
-    String::from_str(alloc, section(&reason))
+    String::from_str(alloc, section(reason))
 }
 
 /// The reason of a reply and its section.
@@ -64,7 +67,7 @@ fn anchor_of(alloc: Global, reply: &Reply) -> Result<Option<String>, AllocError>
 /// The accepted policies of a reply, in dotted form.
 fn policies_of(alloc: Global, reply: &Reply) -> Result<Vec<String>, AllocError>
     ensures { IfOk result (λ texts. map string_bytes texts.items
-        ≡ map written (policies_in reply.now)) }
+        ≡ map dotted_form (policies_in reply.now)) }
 {
     match reply {
         Reply::Valid { policies, .. } => all_dotted(alloc, policies.as_slice()),
@@ -98,7 +101,7 @@ fn places_of(alloc: Global, reply: &Reply) -> Result<Vec<u64>, AllocError>
 fn explanation_of(alloc: Global, question: &Question, reply: &Reply) -> Result<String, AllocError>
     ensures { IfOk result (λ text. IsPrintable (string_bytes text)) }
 {
-    let line = explained(alloc, question, reply)?;
+    let line = explanation(alloc, question, reply)?;
     match line.as_slice() {
         [words @ .., _] => text_of(alloc, words),
         [] => Ok(String::new(alloc)),
@@ -108,7 +111,7 @@ fn explanation_of(alloc: Global, question: &Question, reply: &Reply) -> Result<S
 /// The octets of a question, in base64.
 fn base64_of(alloc: Global, question: &Question) -> Result<String, AllocError>
     ensures { IfOk result (λ text. string_bytes text
-        ≡ encode_of standard (encoding question.now)) }
+        ≡ encode_of standard (question_encoding question.now)) }
 {
     let octets = question.octets(alloc)?;
     STANDARD.encode(alloc, &octets)

@@ -2,7 +2,7 @@
 
 ghost use Rattle.std.specs.Prelude.{◌≡◌, ◌++◌, ◌∷◌, [], IfOk, OnOk, map, option_map, string_bytes};
 ghost use Rattle.serde_json.specs.Data.{string};
-ghost use Rattle.ts_json.specs.Members.{data_of, named};
+ghost use Rattle.ts_json.specs.Members.{data_of, named_value};
 ghost use Rattle.ts_json.specs.Object.{text_or_null};
 ghost use Rattle.ts_render.specs.RowMembers.{anchor_members, command_members, crl_members};
 ghost use Rattle.ts_render.specs.RowMembers.{data_of_purposes, members_of_row};
@@ -38,8 +38,8 @@ fn purposes_value(alloc: Global, purposes: PurposeFields) -> Result<Plain, Alloc
 
 /// Puts a member behind others.
 fn push(members: &mut Vec<Member>, name: &'static str, value: Plain) -> Result<(), AllocError>
-    ensures { OnOk result (map named members.new.items
-        ≡ map named members.old.items ++ (name.now, data_of value) ∷ []) }
+    ensures { OnOk result (map named_value members.new.items
+        ≡ map named_value members.old.items ++ (name.now, data_of value) ∷ []) }
 {
     members.push(Member { name, value })?;
     Ok(())
@@ -47,7 +47,7 @@ fn push(members: &mut Vec<Member>, name: &'static str, value: Plain) -> Result<(
 
 /// The members of an anchor.
 fn anchor_members(alloc: Global, row: AnchorFields) -> Result<Vec<Member>, AllocError>
-    ensures { IfOk result (λ all. map named all.items ≡ anchor_members row) }
+    ensures { IfOk result (λ all. map named_value all.items ≡ anchor_members row) }
 {
     let mut all = Vec::new(alloc);
     push(&mut all, "kind", word(alloc, "anchor")?)?;
@@ -59,7 +59,7 @@ fn anchor_members(alloc: Global, row: AnchorFields) -> Result<Vec<Member>, Alloc
 
 /// The members of a CRL.
 fn crl_members(alloc: Global, row: CrlFields) -> Result<Vec<Member>, AllocError>
-    ensures { IfOk result (λ all. map named all.items ≡ crl_members row) }
+    ensures { IfOk result (λ all. map named_value all.items ≡ crl_members row) }
 {
     let kind = if row.base.is_some() { "delta" } else { "crl" };
     let mut all = Vec::new(alloc);
@@ -89,7 +89,7 @@ fn kind_value(alloc: Global, kind: Option<&'static str>) -> Result<Plain, AllocE
 
 /// The members of a command at a position.
 fn command_members(alloc: Global, place: u64, row: CommandFields) -> Result<Vec<Member>, AllocError>
-    ensures { IfOk result (λ all. map named all.items ≡ command_members place row) }
+    ensures { IfOk result (λ all. map named_value all.items ≡ command_members place row) }
 {
     let mut all = Vec::new(alloc);
     push(&mut all, "position", Plain::Number(Some(place)))?;
@@ -110,7 +110,7 @@ fn command_members(alloc: Global, place: u64, row: CommandFields) -> Result<Vec<
 ///
 /// Out of memory.
 pub fn row_members(alloc: Global, place: u64, row: RowFields) -> Result<Vec<Member>, AllocError>
-    ensures { IfOk result (λ all. map named all.items ≡ members_of_row place row) }
+    ensures { IfOk result (λ all. map named_value all.items ≡ members_of_row place row) }
 {
     match row {
         RowFields::Anchor(row) => anchor_members(alloc, row),

@@ -4,7 +4,7 @@ ghost use Rattle.std.specs.Prelude.{◌≡◌, ℕ, List, IfOk, MatchOption, map
 ghost use Rattle.ts_question.specs.RowView.{anchor_line, command_line, crl_line};
 ghost use Rattle.ts_render.specs.Rows.{ArePurposes, IsAnchorRow, IsCommandRow, IsCrlRow, IsNoRow};
 ghost use Rattle.ts_render.specs.Rows.{AreSet, AreTold, IsRow, setting, words_of};
-ghost use Rattle.ts_render.specs.Texts.{written};
+ghost use Rattle.ts_render.specs.Texts.{dotted_form};
 
 use crate::outcome::{kind_word, outcome_of, outcome_text};
 use crate::text::{content_text, hex_or_none, moment_text, scope_text};
@@ -86,7 +86,7 @@ pub enum RowFields {
 
 /// Object identifiers in dotted form.
 pub(crate) fn all_dotted(alloc: Global, oids: &[Oid]) -> Result<Vec<String>, AllocError>
-    ensures { IfOk result (λ texts. map string_bytes texts.items ≡ map written oids.now) }
+    ensures { IfOk result (λ texts. map string_bytes texts.items ≡ map dotted_form oids.now) }
 {
     let mut texts = Vec::new(alloc);
     for oid in oids {
@@ -108,7 +108,7 @@ fn setting(alloc: Global, octets: &[u8]) -> Result<Vec<u8>, AllocError>
 }
 
 /// The fields of purposes.
-fn told(alloc: Global, purposes: &Purposes) -> Result<PurposeFields, AllocError>
+fn purpose_fields(alloc: Global, purposes: &Purposes) -> Result<PurposeFields, AllocError>
     ensures { IfOk result (AreTold purposes.now) }
 {
     match purposes.oids() {
@@ -123,7 +123,7 @@ fn purposes_of(alloc: Global, octets: &[u8]) -> Result<PurposeFields, AllocError
 {
     let command = setting(alloc, octets)?;
     match Command::read(alloc, &command)? {
-        Some(Command::SetPurposes { purposes, .. }) => told(alloc, &purposes),
+        Some(Command::SetPurposes { purposes, .. }) => purpose_fields(alloc, &purposes),
         _ => Ok(PurposeFields::Unknown),
     }
 }

@@ -5,15 +5,17 @@ use Rattle.std.specs.List.{list_all}
 use Rattle.serde_json.specs.Written.{compact_text}
 use Rattle.ts_json.specs.Object.{object_in}
 use Rattle.ts_json.specs.declared.verdict.VerdictFields.{VerdictFields}
-use Rattle.ts_path.specs.Printed.{reason_text}
-use Rattle.ts_path.specs.declared.reason.Reason.{Reason}
-use Rattle.ts_path.specs.declared.reason.Reason.TheVariants.{AnchorPurpose, Signature, TooEarly}
-use Rattle.ts_path.specs.declared.reason.Reason.TheVariants.{Expired, Revoked, Undetermined}
-use Rattle.ts_path.specs.declared.reason.Reason.TheVariants.{IssuerName, UnsupportedConstraint}
-use Rattle.ts_path.specs.declared.reason.Reason.TheVariants.{NotPermitted, Excluded, PolicyRequired}
-use Rattle.ts_path.specs.declared.reason.Reason.TheVariants.{MapsAny, NotCa, PathLength, KeyUsage}
-use Rattle.ts_path.specs.declared.reason.Reason.TheVariants.{CriticalExtension, FinalPolicy}
-use Rattle.ts_path.specs.declared.reason.Reason.TheVariants.{Purpose}
+use Rattle.ts_reason.specs.Printed.{reason_text}
+use Rattle.ts_reason.specs.View as reasons
+use Rattle.ts_reason.specs.declared.reason.Reason.{Reason}
+use Rattle.ts_reason.specs.declared.reason.Reason.TheVariants.{AnchorPurpose, Signature, TooEarly}
+use Rattle.ts_reason.specs.declared.reason.Reason.TheVariants.{Expired, Revoked, Undetermined}
+use Rattle.ts_reason.specs.declared.reason.Reason.TheVariants.{IssuerName, UnsupportedConstraint}
+use Rattle.ts_reason.specs.declared.reason.Reason.TheVariants.{NotPermitted, Excluded}
+use Rattle.ts_reason.specs.declared.reason.Reason.TheVariants.{PolicyRequired, MapsAny, NotCa}
+use Rattle.ts_reason.specs.declared.reason.Reason.TheVariants.{PathLength, KeyUsage}
+use Rattle.ts_reason.specs.declared.reason.Reason.TheVariants.{CriticalExtension, FinalPolicy}
+use Rattle.ts_reason.specs.declared.reason.Reason.TheVariants.{Purpose}
 use Rattle.ts_report.specs.Text.{oid_text}
 use Rattle.ts_show.specs.Lines.{is_printable}
 use Rattle.ts_verify.specs.declared.report.Finding.{Finding}
@@ -24,7 +26,7 @@ abbrev pub IsPrintable : List ℕ → Type 0
 IsPrintable text = list_all is_printable text ≡ true
 
 -- the RFC and its section that has the condition (RFC 5280 6.1)
-abbrev pub section : Reason → List ℕ
+abbrev pub section : {O : Type 0} → Reason O → List ℕ
 section AnchorPurpose = codes "5280 6.1.1 (d)"
 section Signature = codes "5280 6.1.3 (a)(1)"
 section TooEarly = codes "5280 6.1.3 (a)(2)"
@@ -59,7 +61,7 @@ place_in count OtherHost = Some count
 
 abbrev pub reason_in : Finding → Option (List ℕ)
 reason_in (Valid policies) = None
-reason_in (Invalid position reason) = Some (reason_text reason)
+reason_in (Invalid position reason) = Some (reason_text (reasons.reason_in reason))
 reason_in OtherHost = Some (codes "Host")
 
 abbrev pub section_in : Finding → Option (List ℕ)
@@ -69,7 +71,7 @@ section_in OtherHost = Some (codes "9525 6")
 
 -- the accepted policies in dotted form
 abbrev pub policies_in : Finding → List (List ℕ)
-policies_in (Valid policies) = map oid_text (map (λ p. p.now) policies.items)
+policies_in (Valid policies) = map oid_text (map (λ p. p.content.now) policies.items)
 policies_in (Invalid position reason) = []
 policies_in OtherHost = []
 

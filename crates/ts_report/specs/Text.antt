@@ -1,17 +1,18 @@
 -- The text of a report.
-use Rattle.std.specs.Prelude.{◌≡◌, ℕ, true, if◌then◌else◌, List, [], ◌++◌, map, codes}
+use Rattle.std.specs.Prelude.{◌≡◌, ℕ, true, List, ◌++◌, map, codes}
 use Rattle.std.specs.Fmt.{decimal}
 use Rattle.std.specs.List.{flat_map, list_all}
-use Rattle.ts_der.specs.Dotted.{dotted}
-use Rattle.ts_der.specs.ObjectIdentifier.{arcs, is_oid}
-use Rattle.ts_path.specs.Printed.{reason_text}
-use Rattle.ts_show.specs.Lines.{ended, is_printable, shown}
+use Rattle.ts_der.specs.Dotted.{dotted_text}
+use Rattle.ts_der.specs.ObjectIdentifier.{arcs}
+use Rattle.ts_reason.specs.Printed.{reason_text}
+use Rattle.ts_reason.specs.View.{reason_in}
+use Rattle.ts_show.specs.Lines.{with_line_feed, is_printable, printable}
 use Rattle.ts_verify.specs.declared.report.Finding.{Finding}
 use Rattle.ts_verify.specs.declared.report.Finding.TheVariants.{Valid, Invalid, OtherHost}
 
 -- an object identifier in dotted form, by its content octets
 abbrev pub oid_text : List ℕ → List ℕ
-oid_text content = if is_oid content then dotted (arcs content) else []
+oid_text content = dotted_text (arcs content)
 
 -- policies, each behind a space
 abbrev pub policies_text : List (List ℕ) → List ℕ
@@ -20,13 +21,14 @@ policies_text policies = flat_map (λ policy. codes " " ++ oid_text policy) poli
 -- the words of a finding on a chain of this length: `valid` and the policies, or `invalid`, the
 -- place of a certificate and the reason. `Host` is that of a leaf which is for another host
 abbrev pub words_of : ℕ → Finding → List ℕ
-words_of count (Valid policies) = codes "valid" ++ policies_text (map (λ p. p.now) policies.items)
+words_of count (Valid policies) =
+    codes "valid" ++ policies_text (map (λ p. p.content.now) policies.items)
 words_of count (Invalid position reason) =
-    codes "invalid " ++ decimal position ++ codes " " ++ reason_text reason
+    codes "invalid " ++ decimal position ++ codes " " ++ reason_text (reason_in reason)
 words_of count OtherHost = codes "invalid " ++ decimal count ++ codes " Host"
 
 -- two lines of printable characters, of which the first has the words
 pub record IsText (count : ℕ) (finding : Finding) (text : List ℕ) : Type 0 where
   pub second : List ℕ
-  pub text_is : text ≡ ended (shown (words_of count finding)) ++ ended second
+  pub text_is : text ≡ with_line_feed (printable (words_of count finding)) ++ with_line_feed second
   pub printable : list_all is_printable second ≡ true

@@ -1,18 +1,20 @@
 //! A report as one JSON object.
 
 ghost use Rattle.std.specs.Prelude.{◌≡◌, IfOk, IfSome, length, map, option_map, string_bytes};
-ghost use Rattle.ts_path.specs.Printed.{reason_text};
+ghost use Rattle.ts_reason.specs.Printed.{reason_text};
+ghost use Rattle.ts_reason.specs.View.{reason_in as said_in};
 ghost use Rattle.ts_report.specs.Fields.{AreFields, IsJson, IsPrintable, is_valid, place_in};
 ghost use Rattle.ts_report.specs.Fields.{policies_in, reason_in, section_in};
 ghost use Rattle.ts_report.specs.Text.{oid_text};
 
-use crate::printed::{dotted, explanation};
+use crate::printed::{dotted_form, explanation};
 use crate::sections::section;
 use std::alloc::{AllocError, Global};
 use ts_cert::Cert;
+use ts_der::OidRef;
 use ts_json::{VerdictFields, object_text};
 use ts_name::Name;
-use ts_path::Reason;
+use ts_reason::Reason;
 use ts_show::{Line, write_name};
 use ts_verify::{Finding, Report};
 
@@ -65,8 +67,8 @@ fn place_of(count: usize, finding: &Finding<'_>) -> Option<u64>
 }
 
 /// The name of a reason.
-fn name_of(alloc: Global, reason: Reason<'_>) -> Result<String, AllocError>
-    ensures { IfOk result (λ text. string_bytes text ≡ reason_text reason.entry) }
+fn name_of(alloc: Global, reason: Reason<OidRef<'_>>) -> Result<String, AllocError>
+    ensures { IfOk result (λ text. string_bytes text ≡ reason_text (said_in reason.entry)) }
 {
     format!(in alloc; "{reason}")
 }
@@ -117,13 +119,13 @@ fn subject_of(alloc: Global, report: &Report<'_>) -> Result<Option<String>, Allo
 }
 
 /// Object identifiers in dotted form.
-fn all_dotted(alloc: Global, contents: &[&[u8]]) -> Result<Vec<String>, AllocError>
+fn all_dotted(alloc: Global, oids: &[OidRef<'_>]) -> Result<Vec<String>, AllocError>
     ensures { IfOk result (λ texts. map string_bytes texts.items
-        ≡ map oid_text (map (λ p. p.now) contents.now)) }
+        ≡ map oid_text (map (λ p. p.content.now) oids.now)) }
 {
     let mut texts = Vec::new(alloc);
-    for content in contents {
-        texts.push(dotted(alloc, content)?)?;
+    for oid in oids {
+        texts.push(dotted_form(alloc, *oid)?)?;
     }
     Ok(texts)
 }

@@ -1,47 +1,51 @@
 //! The text of a report.
 
-ghost use Rattle.std.specs.Prelude.{◌≡◌, ◌++◌, ◌∷◌, [], List, ℕ, true, IfOk, OnOk, length, map, codes, string_bytes};
+ghost use Rattle.std.specs.Prelude.{◌≡◌, ◌++◌, ◌∷◌, [], List, ℕ, true, IfOk, OnOk, length, map};
+ghost use Rattle.std.specs.Prelude.{codes, string_bytes};
 ghost use Rattle.std.specs.Fmt.{decimal};
-ghost use Rattle.ts_path.specs.Printed.{reason_text};
+ghost use Rattle.ts_reason.specs.Printed.{reason_text};
+ghost use Rattle.ts_reason.specs.View.{reason_in};
 ghost use Rattle.std.specs.List.{list_all};
-ghost use Rattle.ts_show.specs.Lines.{ended, is_printable, shown};
+ghost use Rattle.ts_show.specs.Lines.{with_line_feed, is_printable, printable};
 ghost use Rattle.ts_report.specs.Text.{IsText, oid_text, policies_text, words_of};
 
 use crate::words::{write_no_anchor, write_reason};
 use std::alloc::{AllocError, Global};
 use ts_cert::Cert;
 use ts_der::OidRef;
-use ts_path::Reason;
+use ts_reason::Reason;
 use ts_show::{Line, write_name};
 use ts_verify::{Finding, Report};
 
-/// An object identifier in dotted form, by its content octets.
-pub(crate) fn dotted(alloc: Global, content: &[u8]) -> Result<String, AllocError>
-    ensures { IfOk result (λ text. string_bytes text ≡ oid_text content.now) }
+/// An object identifier in dotted form.
+pub(crate) fn dotted_form(alloc: Global, oid: OidRef<'_>) -> Result<String, AllocError>
+    ensures { IfOk result (λ text. string_bytes text ≡ oid_text oid.entry.content.now) }
 {
-    match OidRef::from_content(content) {
-        Some(oid) => format!(in alloc; "{oid}"),
-        None => Ok(String::new(alloc)),
-    }
+    format!(in alloc; "{oid}")
 }
 
 /// Policies, each behind a space.
-fn policies_text(alloc: Global, policies: &[&[u8]]) -> Result<String, AllocError>
+fn policies_text(alloc: Global, policies: &[OidRef<'_>]) -> Result<String, AllocError>
     ensures { IfOk result (λ text. string_bytes text
-        ≡ policies_text (map (λ p. p.now) policies.now)) }
+        ≡ policies_text (map (λ p. p.content.now) policies.now)) }
 {
     let mut text = String::new(alloc);
     for policy in policies {
         text.push_str(" ")?;
-        text.push_str(dotted(alloc, policy)?.as_str())?;
+        text.push_str(dotted_form(alloc, *policy)?.as_str())?;
     }
     Ok(text)
 }
 
 /// The words for a certificate that does not meet a condition.
-fn invalid_words(alloc: Global, position: u8, reason: Reason<'_>) -> Result<String, AllocError>
+fn invalid_words(
+    alloc: Global,
+    position: u8,
+    reason: Reason<OidRef<'_>>,
+) -> Result<String, AllocError>
     ensures { IfOk result (λ text. string_bytes text
-        ≡ codes "invalid " ++ (decimal position ++ (codes " " ++ reason_text reason.entry))) }
+        ≡ codes "invalid " ++ (decimal position ++ (codes " "
+        ++ reason_text (reason_in reason.entry)))) }
 {
     format!(in alloc; "invalid {position} {reason}")
 }
@@ -91,7 +95,7 @@ pub fn reason_line(
     alloc: Global,
     chain: &[Cert<'_>],
     position: u8,
-    reason: &Reason<'_>,
+    reason: &Reason<OidRef<'_>>,
 ) -> Result<Line, AllocError> {
     let Some(cert) = chain.get((position as usize).saturating_sub(1)) else {
         return Line::of(alloc, b"no certificate has this place");
@@ -106,7 +110,7 @@ fn invalid_line(
     alloc: Global,
     report: &Report<'_>,
     position: u8,
-    reason: &Reason<'_>,
+    reason: &Reason<OidRef<'_>>,
 ) -> Result<Line, AllocError> {
     let Some(cert) = report.chain.get((position as usize).saturating_sub(1)) else {
         return Line::of(alloc, b"no certificate has this place");
@@ -155,7 +159,7 @@ pub(crate) fn explanation(alloc: Global, report: &Report<'_>) -> Result<Line, Al
 
 /// Writes a line and the line feed that ends it.
 fn end(text: &mut Vec<u8>, line: &Line) -> Result<(), AllocError>
-    ensures { OnOk result (text.new.items ≡ text.old.items ++ ended line.now) }
+    ensures { OnOk result (text.new.items ≡ text.old.items ++ with_line_feed line.now) }
 {
     text.extend_from_slice(line.as_slice())?;
     text.push(b'\n')?;

@@ -3,10 +3,10 @@
 ghost use Rattle.std.specs.Prelude.{◌≡◌};
 ghost use Rattle.ts_report.specs.Fields.{section};
 
-use ts_path::Reason;
+use ts_reason::Reason;
 
 /// The RFC and its section, as `5280 6.1.3 (a)(2)`.
-pub fn section(reason: &Reason<'_>) -> &'static str
+pub fn section<O>(reason: &Reason<O>) -> &'static str
     ensures { result.now ≡ section reason.now }
 {
     match reason {

@@ -3,7 +3,8 @@
 use std::alloc::{AllocError, Global};
 use ts_cert::Cert;
 use ts_check::algorithm_named;
-use ts_path::Reason;
+use ts_der::OidRef;
+use ts_reason::Reason;
 use ts_show::{Line, write_name, write_oid};
 use ts_time::{Moment, print_general};
 
@@ -100,7 +101,7 @@ pub(crate) fn write_no_anchor(
 }
 
 /// The words for a reason that says nothing else.
-fn words_of(reason: &Reason<'_>) -> &'static str {
+fn words_of(reason: &Reason<OidRef<'_>>) -> &'static str {
     match reason {
         Reason::AnchorPurpose => {
             "is under a trust anchor that is not trusted for this purpose (RFC 5280 6.1.1 (d))"
@@ -139,7 +140,7 @@ pub(crate) fn write_reason(
     alloc: Global,
     line: &mut Line,
     cert: &Cert<'_>,
-    reason: &Reason<'_>,
+    reason: &Reason<OidRef<'_>>,
 ) -> Result<(), AllocError> {
     let validity = cert.validity();
     match reason {

@@ -11,12 +11,15 @@ use Rattle.ts_crl.specs.Profile.{scope_of}
 use Rattle.ts_revoke.specs.declared.found.Found.{Found}
 use Rattle.ts_revoke.specs.declared.verdict.Status.{Status}
 use Rattle.ts_revoke.specs.declared.verdict.Status.TheVariants.{Undetermined}
-use Rattle.ts_revoke.specs.ByList.{is_reached, reached_mask, reached_reasons, at_place, earlier, found_by, reasons_by, found_after, reasons_after, is_taken, revoked_at, reasons_at, end_of, or_revoked, status_after, by_list}
+use Rattle.ts_revoke.specs.inside.ByList.{is_reached, reached_mask, reached_reasons, at_place}
+use Rattle.ts_revoke.specs.inside.ByList.{earlier, found_by, reasons_by, found_after, reasons_after}
+use Rattle.ts_revoke.specs.inside.ByList.{is_taken, revoked_at, reasons_at, end_of, or_revoked}
+use Rattle.ts_revoke.specs.inside.ByList.{status_after, by_list}
 use Rattle.ts_revoke.specs.Decision.{revoking, or_reason, first_revoking, decided, of_pass}
 use Rattle.ts_revoke.specs.Listed.{listed}
 use Rattle.ts_revoke.specs.Pairs.{Pair, union_of, adding}
-use Rattle.ts_revoke.specs.Question.{Question}
-use Rattle.ts_revoke.specs.Reasons.{union, is_within}
+use Rattle.ts_revoke.specs.Question.{StatusQuestion}
+use Rattle.ts_revoke.specs.Reasons.{union, is_subset}
 use Rattle.ts_revoke.specs.Status.{pair_of, pairs_among, pairs_at, status_of}
 use Rattle.ts_revoke.specs.Usable.{serves, is_named, mask_of, is_usable, is_own, all_points, issuer_point}
 use Rattle.ts_revoke.proofs.Sets.{union-assoc, union-comm, none-union, union-none}
@@ -24,22 +27,24 @@ use Rattle.ts_revoke.proofs.Sets.{union-assoc, union-comm, none-union, union-non
 -- ---- the pairs of one point
 
 -- what a list gives at a point where these reasons are covered
-abbrev pub rev_at : Question → Point → ReasonSet → CertificateList → Option ℕ
-rev_at q p covered l = if is_usable q p l && not (is_within (mask_of p (scope_of l)) covered) then revoking (listed q l) else None
+abbrev pub rev_at : StatusQuestion → Point → ReasonSet → CertificateList → Option ℕ
+rev_at q p covered l = if is_usable q p l && not (is_subset (mask_of p (scope_of l)) covered) then revoking (listed q l) else None
 
-abbrev pub set_at : Question → Point → ReasonSet → CertificateList → ReasonSet
-set_at q p covered l = if is_usable q p l && not (is_within (mask_of p (scope_of l)) covered) then mask_of p (scope_of l) else no_reasons
+abbrev pub set_at : StatusQuestion → Point → ReasonSet → CertificateList → ReasonSet
+set_at q p covered l = if is_usable q p l && not (is_subset (mask_of p (scope_of l)) covered) then mask_of p (scope_of l) else no_reasons
 
-abbrev pub revs : Question → Point → ReasonSet → List CertificateList → Option ℕ
+abbrev pub revs : StatusQuestion → Point → ReasonSet → List CertificateList → Option ℕ
 revs q p covered [] = None
 revs q p covered (l ∷ ls) = or_reason (rev_at q p covered l) (revs q p covered ls)
 
-abbrev pub sets : Question → Point → ReasonSet → List CertificateList → ReasonSet
+abbrev pub sets : StatusQuestion → Point → ReasonSet → List CertificateList → ReasonSet
 sets q p covered [] = no_reasons
 sets q p covered (l ∷ ls) = union (set_at q p covered l) (sets q p covered ls)
 
 -- a filter of a filter, at its first element
-first_of : (u a : Bool) (x : Pair) (kept : List Pair) → first_revoking (if u then (if a then x ∷ kept else kept) else kept) ≡ or_reason (if u && a then revoking x.listed else None) (first_revoking kept)
+first_of : (u a : Bool) (x : Pair) (kept : List Pair)
+    → first_revoking (if u then (if a then x ∷ kept else kept) else kept) ≡ or_reason
+    (if u && a then revoking x.listed else None) (first_revoking kept)
 first_of true true x kept = refl
 first_of true false x kept = refl
 first_of false a x kept = refl
@@ -50,24 +55,26 @@ set_of_first true false x kept = sym (none-union (union_of kept))
 set_of_first false a x kept = sym (none-union (union_of kept))
 
 -- filtering what was filtered and mapped
-kept_first : (q : Question) (p : Point) (covered : ReasonSet) (l : CertificateList) (ls : List CertificateList) (u : Bool)
+kept_first : (q : StatusQuestion) (p : Point) (covered : ReasonSet) (l : CertificateList) (ls : List CertificateList) (u : Bool)
     → adding covered (map (pair_of q p) (cond u (l ∷ filter (is_usable q p) ls) (filter (is_usable q p) ls)))
-    ≡ (if u then (if not (is_within (mask_of p (scope_of l)) covered) then pair_of q p l ∷ adding covered (pairs_among q p ls) else adding covered (pairs_among q p ls)) else adding covered (pairs_among q p ls))
+    ≡ (if u then (if not (is_subset (mask_of p (scope_of l)) covered) then pair_of q p l
+    ∷ adding covered (pairs_among q p ls) else adding covered (pairs_among q p ls)) else adding
+    covered (pairs_among q p ls))
 kept_first q p covered l ls true = refl
 kept_first q p covered l ls false = refl
 
-pub first-among : (q : Question) (p : Point) (covered : ReasonSet) (ls : List CertificateList) → first_revoking (adding covered (pairs_among q p ls)) ≡ revs q p covered ls
+pub first-among : (q : StatusQuestion) (p : Point) (covered : ReasonSet) (ls : List CertificateList) → first_revoking (adding covered (pairs_among q p ls)) ≡ revs q p covered ls
 first-among q p covered [] = refl
 first-among q p covered (l ∷ ls) =
     ap first_revoking (kept_first q p covered l ls (is_usable q p l))
-    ∙ first_of (is_usable q p l) (not (is_within (mask_of p (scope_of l)) covered)) (pair_of q p l) (adding covered (pairs_among q p ls))
+    ∙ first_of (is_usable q p l) (not (is_subset (mask_of p (scope_of l)) covered)) (pair_of q p l) (adding covered (pairs_among q p ls))
     ∙ ap (or_reason (rev_at q p covered l)) (first-among q p covered ls)
 
-pub union-among : (q : Question) (p : Point) (covered : ReasonSet) (ls : List CertificateList) → union_of (adding covered (pairs_among q p ls)) ≡ sets q p covered ls
+pub union-among : (q : StatusQuestion) (p : Point) (covered : ReasonSet) (ls : List CertificateList) → union_of (adding covered (pairs_among q p ls)) ≡ sets q p covered ls
 union-among q p covered [] = refl
 union-among q p covered (l ∷ ls) =
     ap union_of (kept_first q p covered l ls (is_usable q p l))
-    ∙ set_of_first (is_usable q p l) (not (is_within (mask_of p (scope_of l)) covered)) (pair_of q p l) (adding covered (pairs_among q p ls))
+    ∙ set_of_first (is_usable q p l) (not (is_subset (mask_of p (scope_of l)) covered)) (pair_of q p l) (adding covered (pairs_among q p ls))
     ∙ ap (union (set_at q p covered l)) (union-among q p covered ls)
 
 -- ---- pass 2
@@ -78,19 +85,22 @@ and-comm true false = refl
 and-comm false true = refl
 and-comm false false = refl
 
-revoked_at-is : (q : Question) (p : Point) (covered : ReasonSet) (l : CertificateList) → revoked_at q p covered l ≡ rev_at q p covered l
+revoked_at-is : (q : StatusQuestion) (p : Point) (covered : ReasonSet) (l : CertificateList) → revoked_at q p covered l ≡ rev_at q p covered l
 unfolding revoked_at is_taken
-revoked_at-is q p covered l = ap (λ b. if b then revoking (listed q l) else None) (and-comm (not (is_within (mask_of p (scope_of l)) covered)) (is_usable q p l))
+revoked_at-is q p covered l = ap (λ b. if b then revoking (listed q l) else None) (and-comm (not (is_subset (mask_of p (scope_of l)) covered)) (is_usable q p l))
 
-reasons_at-is : (q : Question) (p : Point) (covered : ReasonSet) (l : CertificateList) → reasons_at q p covered l ≡ set_at q p covered l
+reasons_at-is : (q : StatusQuestion) (p : Point) (covered : ReasonSet) (l : CertificateList) → reasons_at q p covered l ≡ set_at q p covered l
 unfolding reasons_at is_taken
-reasons_at-is q p covered l = ap (λ b. if b then mask_of p (scope_of l) else no_reasons) (and-comm (not (is_within (mask_of p (scope_of l)) covered)) (is_usable q p l))
+reasons_at-is q p covered l = ap (λ b. if b then mask_of p (scope_of l) else no_reasons) (and-comm (not (is_subset (mask_of p (scope_of l)) covered)) (is_usable q p l))
 
 or_decided : (r s : Option ℕ) (reasons : ReasonSet) → or_revoked r (decided s reasons Undetermined) ≡ decided (or_reason r s) reasons Undetermined
 or_decided (Some reason) s reasons = refl
 or_decided None s reasons = refl
 
-status_after-is : (q : Question) (p : Point) (covered reasons : ReasonSet) (ls : List CertificateList) → status_after q p covered reasons ls ≡ decided (revs q p covered ls) (union reasons (sets q p covered ls)) Undetermined
+status_after-is : (q : StatusQuestion) (p : Point) (covered reasons : ReasonSet)
+    (ls : List CertificateList)
+    → status_after q p covered reasons ls ≡ decided (revs q p covered ls)
+    (union reasons (sets q p covered ls)) Undetermined
 status_after-is q p covered reasons [] = ap end_of (sym (union-none reasons))
 status_after-is q p covered reasons (l ∷ ls) =
     ap (or_revoked (revoked_at q p covered l)) (status_after-is q p covered (union reasons (reasons_at q p covered l)) ls)
@@ -100,7 +110,7 @@ status_after-is q p covered reasons (l ∷ ls) =
     (union-assoc reasons (reasons_at q p covered l) (sets q p covered ls) ∙ ap (λ s. union reasons (union s (sets q p covered ls))) (reasons_at-is q p covered l))
 
 -- list by list pass 2 says what it says pair by pair
-pub pass_two : (q : Question) (p : Point) (covered : ReasonSet) → status_after q p covered covered q.lists ≡ of_pass covered (adding covered (pairs_at q p)) Undetermined
+pub pass_two : (q : StatusQuestion) (p : Point) (covered : ReasonSet) → status_after q p covered covered q.lists ≡ of_pass covered (adding covered (pairs_at q p)) Undetermined
 pass_two q p covered =
     status_after-is q p covered covered q.lists
     ∙ ap (λ r. decided r (union covered (sets q p covered q.lists)) Undetermined) (sym (first-among q p covered q.lists))
@@ -122,7 +132,7 @@ union-append (x ∷ xs) ys = ap (union x.mask) (union-append xs ys) ∙ sym (uni
 
 adding-append : (covered : ReasonSet) (xs ys : List Pair) → adding covered (xs ++ ys) ≡ adding covered xs ++ adding covered ys
 adding-append covered [] ys = refl
-adding-append covered (x ∷ xs) ys = by_test (adding-append covered xs ys) (not (is_within x.mask covered))
+adding-append covered (x ∷ xs) ys = by_test (adding-append covered xs ys) (not (is_subset x.mask covered))
   where
     by_test : adding covered (xs ++ ys) ≡ adding covered xs ++ adding covered ys → (b : Bool)
         → cond b (x ∷ adding covered (xs ++ ys)) (adding covered (xs ++ ys)) ≡ cond b (x ∷ adding covered xs) (adding covered xs) ++ adding covered ys
@@ -130,28 +140,28 @@ adding-append covered (x ∷ xs) ys = by_test (adding-append covered xs ys) (not
     by_test e false = e
 
 -- all pairs of pass 1, by the points as they are
-abbrev pub own_pairs : Question → List Point → List Pair
+abbrev pub own_pairs : StatusQuestion → List Point → List Pair
 own_pairs q points = adding no_reasons (flat_map (pairs_at q) (filter is_own points))
 
 -- what a list gives at a point of pass 1
-abbrev pub own_rev : Question → Point → CertificateList → Option ℕ
+abbrev pub own_rev : StatusQuestion → Point → CertificateList → Option ℕ
 own_rev q p l = if serves q l && is_reached (scope_of l) p then revoking (listed q l) else None
 
-abbrev pub own_set : Question → Point → CertificateList → ReasonSet
+abbrev pub own_set : StatusQuestion → Point → CertificateList → ReasonSet
 own_set q p l = if serves q l then reached_mask (scope_of l) p else no_reasons
 
-abbrev pub own_revs : Question → Point → List CertificateList → Option ℕ
+abbrev pub own_revs : StatusQuestion → Point → List CertificateList → Option ℕ
 own_revs q p [] = None
 own_revs q p (l ∷ ls) = or_reason (own_rev q p l) (own_revs q p ls)
 
-abbrev pub own_sets : Question → Point → List CertificateList → ReasonSet
+abbrev pub own_sets : StatusQuestion → Point → List CertificateList → ReasonSet
 own_sets q p [] = no_reasons
 own_sets q p (l ∷ ls) = union (own_set q p l) (own_sets q p ls)
 
 -- at an own point these are the pairs' own
-own_rev-is : (q : Question) (p : Point) (l : CertificateList) → is_own p ≡ true → own_rev q p l ≡ rev_at q p no_reasons l
+own_rev-is : (q : StatusQuestion) (p : Point) (l : CertificateList) → is_own p ≡ true → own_rev q p l ≡ rev_at q p no_reasons l
 unfolding is_reached
-own_rev-is q p l own = ap (λ b. if b then revoking (listed q l) else None) (tests (serves q l) (is_own p) (is_named p (scope_of l)) (not (is_within (mask_of p (scope_of l)) no_reasons)) own)
+own_rev-is q p l own = ap (λ b. if b then revoking (listed q l) else None) (tests (serves q l) (is_own p) (is_named p (scope_of l)) (not (is_subset (mask_of p (scope_of l)) no_reasons)) own)
   where
     tests : (s o n w : Bool) → o ≡ true → (s && (o && (w && n))) ≡ ((s && n) && w)
     tests s false n w e = absurd (true≢false (sym e))
@@ -162,9 +172,9 @@ own_rev-is q p l own = ap (λ b. if b then revoking (listed q l) else None) (tes
     tests false true true w e = refl
     tests false true false w e = refl
 
-own_set-is : (q : Question) (p : Point) (l : CertificateList) → is_own p ≡ true → own_set q p l ≡ set_at q p no_reasons l
+own_set-is : (q : StatusQuestion) (p : Point) (l : CertificateList) → is_own p ≡ true → own_set q p l ≡ set_at q p no_reasons l
 unfolding is_reached
-own_set-is q p l own = tests (serves q l) (is_own p) (is_named p (scope_of l)) (not (is_within (mask_of p (scope_of l)) no_reasons)) (mask_of p (scope_of l)) own
+own_set-is q p l own = tests (serves q l) (is_own p) (is_named p (scope_of l)) (not (is_subset (mask_of p (scope_of l)) no_reasons)) (mask_of p (scope_of l)) own
   where
     tests : (s o n w : Bool) (m : ReasonSet) → o ≡ true → (if s then (if o && (w && n) then m else no_reasons) else no_reasons) ≡ (if (s && n) && w then m else no_reasons)
     tests s false n w m e = absurd (true≢false (sym e))
@@ -175,20 +185,20 @@ own_set-is q p l own = tests (serves q l) (is_own p) (is_named p (scope_of l)) (
     tests false true true w m e = refl
     tests false true false w m e = refl
 
-own_revs-is : (q : Question) (p : Point) (ls : List CertificateList) → is_own p ≡ true → own_revs q p ls ≡ revs q p no_reasons ls
+own_revs-is : (q : StatusQuestion) (p : Point) (ls : List CertificateList) → is_own p ≡ true → own_revs q p ls ≡ revs q p no_reasons ls
 own_revs-is q p [] own = refl
 own_revs-is q p (l ∷ ls) own = ap (λ r. or_reason r (own_revs q p ls)) (own_rev-is q p l own) ∙ ap (or_reason (rev_at q p no_reasons l)) (own_revs-is q p ls own)
 
-own_sets-is : (q : Question) (p : Point) (ls : List CertificateList) → is_own p ≡ true → own_sets q p ls ≡ sets q p no_reasons ls
+own_sets-is : (q : StatusQuestion) (p : Point) (ls : List CertificateList) → is_own p ≡ true → own_sets q p ls ≡ sets q p no_reasons ls
 own_sets-is q p [] own = refl
 own_sets-is q p (l ∷ ls) own = ap (λ r. union r (own_sets q p ls)) (own_set-is q p l own) ∙ ap (union (set_at q p no_reasons l)) (own_sets-is q p ls own)
 
 -- at any other point there is nothing
-no_rev : (q : Question) (p : Point) (ls : List CertificateList) → is_own p ≡ false → own_revs q p ls ≡ None
+no_rev : (q : StatusQuestion) (p : Point) (ls : List CertificateList) → is_own p ≡ false → own_revs q p ls ≡ None
 unfolding is_reached
 no_rev q p [] other = refl
 no_rev q p (l ∷ ls) other =
-    ap (λ r. or_reason r (own_revs q p ls)) (none (serves q l) (is_own p) (not (is_within (mask_of p (scope_of l)) no_reasons) && is_named p (scope_of l)) (revoking (listed q l)) other)
+    ap (λ r. or_reason r (own_revs q p ls)) (none (serves q l) (is_own p) (not (is_subset (mask_of p (scope_of l)) no_reasons) && is_named p (scope_of l)) (revoking (listed q l)) other)
     ∙ no_rev q p ls other
   where
     none : (s o n : Bool) (r : Option ℕ) → o ≡ false → (if s && (o && n) then r else None) ≡ None
@@ -196,11 +206,11 @@ no_rev q p (l ∷ ls) other =
     none true false n r e = refl
     none false false n r e = refl
 
-no_set : (q : Question) (p : Point) (ls : List CertificateList) → is_own p ≡ false → own_sets q p ls ≡ no_reasons
+no_set : (q : StatusQuestion) (p : Point) (ls : List CertificateList) → is_own p ≡ false → own_sets q p ls ≡ no_reasons
 unfolding is_reached
 no_set q p [] other = refl
 no_set q p (l ∷ ls) other =
-    ap (λ r. union r (own_sets q p ls)) (none (serves q l) (is_own p) (not (is_within (mask_of p (scope_of l)) no_reasons) && is_named p (scope_of l)) (mask_of p (scope_of l)) other)
+    ap (λ r. union r (own_sets q p ls)) (none (serves q l) (is_own p) (not (is_subset (mask_of p (scope_of l)) no_reasons) && is_named p (scope_of l)) (mask_of p (scope_of l)) other)
     ∙ none-union (own_sets q p ls) ∙ no_set q p ls other
   where
     none : (s o n : Bool) (m : ReasonSet) → o ≡ false → (if s then (if o && n then m else no_reasons) else no_reasons) ≡ no_reasons
@@ -209,15 +219,15 @@ no_set q p (l ∷ ls) other =
     none false false n m e = refl
 
 -- point by point
-abbrev pub point_revs : Question → List CertificateList → List Point → Option ℕ
+abbrev pub point_revs : StatusQuestion → List CertificateList → List Point → Option ℕ
 point_revs q ls [] = None
 point_revs q ls (p ∷ ps) = or_reason (own_revs q p ls) (point_revs q ls ps)
 
-abbrev pub point_sets : Question → List CertificateList → List Point → ReasonSet
+abbrev pub point_sets : StatusQuestion → List CertificateList → List Point → ReasonSet
 point_sets q ls [] = no_reasons
 point_sets q ls (p ∷ ps) = union (own_sets q p ls) (point_sets q ls ps)
 
-pub first-own : (q : Question) (ps : List Point) → first_revoking (own_pairs q ps) ≡ point_revs q q.lists ps
+pub first-own : (q : StatusQuestion) (ps : List Point) → first_revoking (own_pairs q ps) ≡ point_revs q q.lists ps
 first-own q [] = refl
 first-own q (p ∷ ps) = by_own (first-own q ps) (is_own p) refl
   where
@@ -230,7 +240,7 @@ first-own q (p ∷ ps) = by_own (first-own q ps) (is_own p) refl
         ∙ ap (or_reason (own_revs q p q.lists)) rest
     by_own rest false other = rest ∙ sym (ap (λ r. or_reason r (point_revs q q.lists ps)) (no_rev q p q.lists other))
 
-pub union-own : (q : Question) (ps : List Point) → union_of (own_pairs q ps) ≡ point_sets q q.lists ps
+pub union-own : (q : StatusQuestion) (ps : List Point) → union_of (own_pairs q ps) ≡ point_sets q q.lists ps
 union-own q [] = refl
 union-own q (p ∷ ps) = by_own (union-own q ps) (is_own p) refl
   where
@@ -250,7 +260,7 @@ shift None = None
 shift (Some f) = Some (record { place = suc f.place; reason = f.reason })
 
 -- the best of lists, from the last on
-abbrev pub best : Question → List Point → List CertificateList → Option Found
+abbrev pub best : StatusQuestion → List Point → List CertificateList → Option Found
 best q ps [] = None
 best q ps (l ∷ ls) = earlier (found_by q ps l) (best q ps ls)
 
@@ -280,7 +290,10 @@ shift-earlier (Some a) (Some b) = by_test (nat_lt b.place a.place) refl
         let h : nat_lt (suc b.place) (suc a.place) ≡ true = (Decides-ltb (suc b.place) (suc a.place)).1 (let l : b.place < a.place = (Decides-ltb b.place a.place).0 e in omega arith) in
         rw (e, h) refl
     by_test false e =
-        let h : nat_lt (suc b.place) (suc a.place) ≡ false = not_true _ (λ t. let l : suc b.place < suc a.place = (Decides-ltb (suc b.place) (suc a.place)).0 t in let m : b.place < a.place = omega arith in true≢false (sym ((Decides-ltb b.place a.place).1 m) ∙ e)) in
+        let h : nat_lt (suc b.place) (suc a.place) ≡ false =
+        not_true _ (λ t. let l : suc b.place < suc a.place =
+        (Decides-ltb (suc b.place) (suc a.place)).0 t in let m : b.place < a.place =
+        omega arith in true≢false (sym ((Decides-ltb b.place a.place).1 m) ∙ e)) in
         rw (e, h) refl
       where
         not_true : (t : Bool) → (t ≡ true → ⊥) → t ≡ false
@@ -317,7 +330,7 @@ one_more true false (Some k) None others rest = refl
 one_more true false (Some k) (Some c) (Some d) rest = rw (zero_below k) refl
 one_more true false (Some k) (Some c) None rest = sym (shift-earlier (Some (record { place = k; reason = c })) rest)
 
-pub best-step : (q : Question) (p : Point) (ps : List Point) (ls : List CertificateList) → best q (p ∷ ps) ls ≡ in_front (own_revs q p ls) (shift (best q ps ls))
+pub best-step : (q : StatusQuestion) (p : Point) (ps : List Point) (ls : List CertificateList) → best q (p ∷ ps) ls ≡ in_front (own_revs q p ls) (shift (best q ps ls))
 unfolding found_by
 best-step q p ps [] = refl
 best-step q p ps (l ∷ ls) =
@@ -332,12 +345,12 @@ no_place : (s : Bool) (reason : Option ℕ) → (if s then at_place None reason 
 no_place true reason = refl
 no_place false reason = refl
 
-best-none : (q : Question) (ls : List CertificateList) → best q [] ls ≡ None
+best-none : (q : StatusQuestion) (ls : List CertificateList) → best q [] ls ≡ None
 unfolding found_by earlier
 best-none q [] = refl
 best-none q (l ∷ ls) = ap (λ f. earlier f (best q [] ls)) (no_place (serves q l) (revoking (listed q l))) ∙ best-none q ls
 
-pub best-reason : (q : Question) (ps : List Point) (ls : List CertificateList) → option_map (λ (f : Found). f.reason) (best q ps ls) ≡ point_revs q ls ps
+pub best-reason : (q : StatusQuestion) (ps : List Point) (ls : List CertificateList) → option_map (λ (f : Found). f.reason) (best q ps ls) ≡ point_revs q ls ps
 best-reason q [] ls = ap (option_map (λ (f : Found). f.reason)) (best-none q ls)
 best-reason q (p ∷ ps) ls =
     ap (option_map (λ (f : Found). f.reason)) (best-step q p ps ls) ∙ reason-front (own_revs q p ls) (best q ps ls) ∙ ap (or_reason (own_revs q p ls)) (best-reason q ps ls)
@@ -370,7 +383,10 @@ earlier-assoc (Some a) (Some b) (Some c) = by_tests (nat_lt b.place a.place) (na
     by_tests : (t u : Bool) → nat_lt b.place a.place ≡ t → nat_lt c.place b.place ≡ u
         → earlier (if t then Some b else Some a) (Some c) ≡ earlier (Some a) (if u then Some c else Some b)
     by_tests true true e f =
-        let h : nat_lt c.place a.place ≡ true = (Decides-ltb c.place a.place).1 (let l : b.place < a.place = (Decides-ltb b.place a.place).0 e in let m : c.place < b.place = (Decides-ltb c.place b.place).0 f in omega arith) in
+        let h : nat_lt c.place a.place ≡ true =
+        (Decides-ltb c.place a.place).1
+        (let l : b.place < a.place = (Decides-ltb b.place a.place).0 e in
+        let m : c.place < b.place = (Decides-ltb c.place b.place).0 f in omega arith) in
         rw (f, h) refl
     by_tests true false e f = rw (f, e) refl
     by_tests false true e f = refl
@@ -383,18 +399,18 @@ earlier-assoc (Some a) (Some b) (Some c) = by_tests (nat_lt b.place a.place) (na
         omega (arith, l, n, m)) in
         rw (e, h) refl
 
-pub found_after-is : (q : Question) (ps : List Point) (acc : Option Found) (ls : List CertificateList) → found_after q ps acc ls ≡ earlier acc (best q ps ls)
+pub found_after-is : (q : StatusQuestion) (ps : List Point) (acc : Option Found) (ls : List CertificateList) → found_after q ps acc ls ≡ earlier acc (best q ps ls)
 found_after-is q ps acc [] = sym (earlier-none acc)
 found_after-is q ps acc (l ∷ ls) = found_after-is q ps (earlier acc (found_by q ps l)) ls ∙ earlier-assoc acc (found_by q ps l) (best q ps ls)
 
-pub pass_one_found : (q : Question) (ps : List Point) → option_map (λ (f : Found). f.reason) (found_after q ps None q.lists) ≡ first_revoking (own_pairs q ps)
+pub pass_one_found : (q : StatusQuestion) (ps : List Point) → option_map (λ (f : Found). f.reason) (found_after q ps None q.lists) ≡ first_revoking (own_pairs q ps)
 unfolding earlier
 pass_one_found q ps =
     ap (option_map (λ (f : Found). f.reason)) (found_after-is q ps None q.lists) ∙ best-reason q ps q.lists ∙ sym (first-own q ps)
 
 -- ---- pass 1: the union
 
-abbrev pub spread : Question → List Point → List CertificateList → ReasonSet
+abbrev pub spread : StatusQuestion → List Point → List CertificateList → ReasonSet
 spread q ps [] = no_reasons
 spread q ps (l ∷ ls) = union (reasons_by q ps l) (spread q ps ls)
 
@@ -404,7 +420,7 @@ interchange a b c d =
     ∙ ap (union a) (sym (union-assoc b c d) ∙ ap (λ s. union s d) (union-comm b c) ∙ union-assoc c b d)
     ∙ sym (union-assoc a c (union b d))
 
-spread-step : (q : Question) (p : Point) (ps : List Point) (ls : List CertificateList) → spread q (p ∷ ps) ls ≡ union (own_sets q p ls) (spread q ps ls)
+spread-step : (q : StatusQuestion) (p : Point) (ps : List Point) (ls : List CertificateList) → spread q (p ∷ ps) ls ≡ union (own_sets q p ls) (spread q ps ls)
 unfolding reasons_by
 spread-step q p ps [] = sym (none-union no_reasons)
 spread-step q p ps (l ∷ ls) =
@@ -416,7 +432,7 @@ spread-step q p ps (l ∷ ls) =
     split true m n = refl
     split false m n = sym (none-union no_reasons)
 
-spread-none : (q : Question) (ls : List CertificateList) → spread q [] ls ≡ no_reasons
+spread-none : (q : StatusQuestion) (ls : List CertificateList) → spread q [] ls ≡ no_reasons
 unfolding reasons_by
 spread-none q [] = refl
 spread-none q (l ∷ ls) = ap (λ s. union s (spread q [] ls)) (same (serves q l)) ∙ none-union (spread q [] ls) ∙ spread-none q ls
@@ -425,20 +441,20 @@ spread-none q (l ∷ ls) = ap (λ s. union s (spread q [] ls)) (same (serves q l
     same true = refl
     same false = refl
 
-spread-is : (q : Question) (ps : List Point) (ls : List CertificateList) → spread q ps ls ≡ point_sets q ls ps
+spread-is : (q : StatusQuestion) (ps : List Point) (ls : List CertificateList) → spread q ps ls ≡ point_sets q ls ps
 spread-is q [] ls = spread-none q ls
 spread-is q (p ∷ ps) ls = spread-step q p ps ls ∙ ap (union (own_sets q p ls)) (spread-is q ps ls)
 
-reasons_after-is : (q : Question) (ps : List Point) (acc : ReasonSet) (ls : List CertificateList) → reasons_after q ps acc ls ≡ union acc (spread q ps ls)
+reasons_after-is : (q : StatusQuestion) (ps : List Point) (acc : ReasonSet) (ls : List CertificateList) → reasons_after q ps acc ls ≡ union acc (spread q ps ls)
 reasons_after-is q ps acc [] = sym (union-none acc)
 reasons_after-is q ps acc (l ∷ ls) = reasons_after-is q ps (union acc (reasons_by q ps l)) ls ∙ union-assoc acc (reasons_by q ps l) (spread q ps ls)
 
-pub pass_one_union : (q : Question) (ps : List Point) → reasons_after q ps no_reasons q.lists ≡ union_of (own_pairs q ps)
+pub pass_one_union : (q : StatusQuestion) (ps : List Point) → reasons_after q ps no_reasons q.lists ≡ union_of (own_pairs q ps)
 pass_one_union q ps = reasons_after-is q ps no_reasons q.lists ∙ none-union (spread q ps q.lists) ∙ spread-is q ps q.lists ∙ sym (union-own q ps)
 
 -- ---- both passes
 
-pub whole : (q : Question) → by_list q ≡ status_of q
+pub whole : (q : StatusQuestion) → by_list q ≡ status_of q
 whole q =
     let points = all_points q.certificate in
     let p = issuer_point q.certificate in

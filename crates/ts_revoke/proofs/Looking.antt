@@ -6,8 +6,8 @@ use Rattle.ts_crl.specs.declared.crl.Crl.{Crl}
 use Rattle.ts_crl.specs.ListView.{crl_in}
 use Rattle.ts_revoke.specs.declared.looked.Looked.{Looked}
 use Rattle.ts_revoke.specs.declared.looked.Looked.TheVariants.{NotYet}
-use Rattle.ts_revoke.specs.Looked.{IsLooked, AreLooked}
-use Rattle.ts_revoke.specs.Question.{Question}
+use Rattle.ts_revoke.specs.inside.Looked.{IsLooked, AreLooked}
+use Rattle.ts_revoke.specs.Question.{StatusQuestion}
 
 -- a list at its place, before those that follow
 pub next_is : (lists : List Crl) (i : ℕ) (l : Crl) → i < length lists → l ≡ get_or lists i l → drop i lists ≡ l ∷ drop (i + 1) lists
@@ -19,7 +19,7 @@ read_new zero i = refl
 read_new (suc n) zero = refl
 read_new (suc n) (suc i) = read_new n i
 
-pub looked_new : (q : Question) (lists : List Crl) (n : ℕ) → AreLooked q lists (replicate n NotYet)
+pub looked_new : (q : StatusQuestion) (lists : List Crl) (n : ℕ) → AreLooked q lists (replicate n NotYet)
 looked_new q lists n i d within = subst (IsLooked q (crl_in (get_or lists i d))) (sym (read_new n i)) tt
 
 -- what is read after a write is what stood there before, or what was written
@@ -31,7 +31,7 @@ read_set (x ∷ xs) (suc i) zero e = inl refl
 read_set (x ∷ xs) (suc i) (suc k) e = elim (read_set xs i k e) [ inl same ↦ inl same | inr new ↦ inr (ap (λ n. suc n) new.0, new.1) ]
 
 -- what is kept of a list stays true
-pub looked_more : (q : Question) (lists : List Crl) (table : List Looked) (i : ℕ) (l : Crl) (e : Looked)
+pub looked_more : (q : StatusQuestion) (lists : List Crl) (table : List Looked) (i : ℕ) (l : Crl) (e : Looked)
     → i < length lists → l ≡ get_or lists i l → IsLooked q (crl_in l) e → AreLooked q lists table → AreLooked q lists (set table i e)
 looked_more q lists table i l e inside at true_of known k d within = elim (read_set table i k e) [
   | inl same ↦ subst (IsLooked q (crl_in (get_or lists k d))) (sym same) (known k d within)

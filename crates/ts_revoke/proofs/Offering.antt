@@ -6,11 +6,11 @@ use Rattle.ts_ext.specs.NamedBits.{holds, no_reasons}
 use Rattle.ts_ext.specs.Points.{Point, ListScope}
 use Rattle.ts_crl.specs.List.{CertificateList}
 use Rattle.ts_crl.specs.Profile.{scope_of}
-use Rattle.ts_revoke.specs.ByList.{offered_by, offered, is_for_some, is_reached, first_reached, reached_reasons, at_place, found_by, reasons_by}
+use Rattle.ts_revoke.specs.inside.ByList.{offered_by, offered, is_for_some, is_reached, first_reached, reached_reasons, at_place, found_by, reasons_by}
 use Rattle.ts_revoke.specs.Decision.{revoking}
 use Rattle.ts_revoke.specs.Listed.{listed}
-use Rattle.ts_revoke.specs.Question.{Question}
-use Rattle.ts_revoke.specs.Reasons.{union, intersection, is_within}
+use Rattle.ts_revoke.specs.Question.{StatusQuestion}
+use Rattle.ts_revoke.specs.Reasons.{union, intersection, is_subset}
 use Rattle.ts_revoke.specs.Usable.{serves, is_named, is_own, reasons_in, scope_reasons, mask_of}
 use Rattle.ts_revoke.proofs.Sets.{holds-union, holds-intersection, holds-none, within_holds, within_from, none-union}
 
@@ -47,7 +47,7 @@ unreached : (scope : Option ListScope) (p : Point) → Apart scope (offered_by p
 unfolding is_reached
 unreached scope p apart = by_own (is_own p) apart
   where
-    by_own : (b : Bool) → Apart scope (if b then reasons_in p.reasons else no_reasons) → (b && (not (is_within (mask_of p scope) no_reasons) && is_named p scope)) ≡ false
+    by_own : (b : Bool) → Apart scope (if b then reasons_in p.reasons else no_reasons) → (b && (not (is_subset (mask_of p scope) no_reasons) && is_named p scope)) ≡ false
     by_own false h = refl
     by_own true h =
         ap (λ w. not w && is_named p scope)
@@ -74,22 +74,24 @@ no_mask scope (p ∷ ps) apart =
     ∙ no_mask scope ps (apart_rest scope p ps apart)
 
 -- where no reason is offered no list is for one
-pub none_for_some : (scope : Option ListScope) (s : ReasonSet) → is_within s no_reasons ≡ true → is_for_some scope s ≡ false
+pub none_for_some : (scope : Option ListScope) (s : ReasonSet) → is_subset s no_reasons ≡ true → is_for_some scope s ≡ false
 none_for_some scope s e =
     ap not
     (within_from (intersection (scope_reasons scope) s) no_reasons (λ flag both.
     within_holds s no_reasons e flag (right_true _ _ (sym (holds-intersection (scope_reasons scope) s flag) ∙ both))))
 
 -- such a list finds nothing, whether it serves or not, and is for no reason
-pub finds_none : (q : Question) (ps : List Point) (l : CertificateList) → is_for_some (scope_of l) (offered ps) ≡ false → found_by q ps l ≡ None
+pub finds_none : (q : StatusQuestion) (ps : List Point) (l : CertificateList) → is_for_some (scope_of l) (offered ps) ≡ false → found_by q ps l ≡ None
 unfolding found_by
-finds_none q ps l e = ap (λ n. if serves q l then at_place n (revoking (listed q l)) else None) (none_reached (scope_of l) 0 ps (apart_from (scope_of l) (offered ps) e)) ∙ nowhere (serves q l) (revoking (listed q l))
+finds_none q ps l e = ap (λ n. if serves q l then at_place n (revoking (listed q l)) else None)
+    (none_reached (scope_of l) 0 ps (apart_from (scope_of l) (offered ps) e))
+    ∙ nowhere (serves q l) (revoking (listed q l))
   where
     nowhere : (s : Bool) (reason : Option ℕ) → (if s then at_place None reason else None) ≡ None
     nowhere true reason = refl
     nowhere false reason = refl
 
-pub covers_none : (q : Question) (ps : List Point) (l : CertificateList) → is_for_some (scope_of l) (offered ps) ≡ false → reasons_by q ps l ≡ no_reasons
+pub covers_none : (q : StatusQuestion) (ps : List Point) (l : CertificateList) → is_for_some (scope_of l) (offered ps) ≡ false → reasons_by q ps l ≡ no_reasons
 unfolding reasons_by
 covers_none q ps l e = ap (λ s. if serves q l then s else no_reasons) (no_mask (scope_of l) ps (apart_from (scope_of l) (offered ps) e)) ∙ same (serves q l)
   where
@@ -98,10 +100,10 @@ covers_none q ps l e = ap (λ s. if serves q l then s else no_reasons) (no_mask 
     same false = refl
 
 -- nor does one that does not serve
-pub refused_finds_none : (q : Question) (ps : List Point) (l : CertificateList) → serves q l ≡ false → found_by q ps l ≡ None
+pub refused_finds_none : (q : StatusQuestion) (ps : List Point) (l : CertificateList) → serves q l ≡ false → found_by q ps l ≡ None
 unfolding found_by
 refused_finds_none q ps l e = ap (λ b. if b then at_place (first_reached (scope_of l) 0 ps) (revoking (listed q l)) else None) e
 
-pub refused_covers_none : (q : Question) (ps : List Point) (l : CertificateList) → serves q l ≡ false → reasons_by q ps l ≡ no_reasons
+pub refused_covers_none : (q : StatusQuestion) (ps : List Point) (l : CertificateList) → serves q l ≡ false → reasons_by q ps l ≡ no_reasons
 unfolding reasons_by
 refused_covers_none q ps l e = ap (λ b. if b then reached_reasons (scope_of l) ps else no_reasons) e

@@ -5,7 +5,7 @@ use Rattle.ts_der.specs.Element.{Place, Tlv}
 use Rattle.ts_der.specs.Reading.{is_end}
 use Rattle.ts_shape.specs.Items.{each, first_then, upto_from, items_at}
 use Rattle.ts_ext.specs.Points.{Point, ListScope}
-use Rattle.ts_revoke.specs.ByList.{is_reached, first_reached}
+use Rattle.ts_revoke.specs.inside.ByList.{is_reached, first_reached}
 use Rattle.ts_revoke.specs.Decision.{or_reason}
 
 few : {A : Type 0} (n : ℕ) (value : Tlv → Result A Fault) (here : Place) → length (upto_from n value here) ≤ n
@@ -27,7 +27,10 @@ items_few value here = few (length here.rest) value here
 pub place_more : (scope : Option ListScope) (place noted : Option ℕ) (reached : Bool) (i j : ℕ) (p : Point) (ps : List Point)
     → reached ≡ is_reached scope p → noted ≡ or_reason place (if reached then Some i else None) → j ≡ i + 1
     → or_reason noted (first_reached scope j ps) ≡ or_reason place (first_reached scope i (p ∷ ps))
-place_more scope place noted reached i j p ps e f g = rw (f, g) (ap (λ b. or_reason (or_reason place (if b then Some i else None)) (first_reached scope (i + 1) ps)) e ∙ cases place (is_reached scope p) (first_reached scope (i + 1) ps))
+place_more scope place noted reached i j p ps e f g =
+    rw (f, g) (ap (λ b. or_reason (or_reason place (if b then Some i else None))
+    (first_reached scope (i + 1) ps)) e
+    ∙ cases place (is_reached scope p) (first_reached scope (i + 1) ps))
   where
     cases : (a : Option ℕ) (b : Bool) (r : Option ℕ) → or_reason (or_reason a (if b then Some i else None)) r ≡ or_reason a (cond b (Some i) r)
     cases (Some x) b r = refl

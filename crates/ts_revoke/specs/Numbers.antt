@@ -2,7 +2,7 @@
 use Rattle.std.specs.Prelude.{ℕ, ◌&&◌, not, int_lt, Bool, false, List, Option, Some}
 use Rattle.ts_der.specs.Integer.{twos_complement}
 use Rattle.ts_crl.specs.List.{CertificateList}
-use Rattle.ts_crl.specs.Values.{number_of, base_of}
+use Rattle.ts_crl.specs.Values.{crl_number, base_number}
 
 -- all three are there, the base number is at most the number, and the number is below the newer
 -- one; each is the content of an INTEGER
@@ -15,4 +15,4 @@ lies_between base number newer = false
 -- a delta CRL states the changes since a CRL: BaseCRLNumber <= the number of the CRL < the number
 -- of the delta CRL
 abbrev pub continues : CertificateList → CertificateList → Bool
-continues l delta = lies_between (base_of delta) (number_of l) (number_of delta)
+continues l delta = lies_between (base_number delta) (crl_number l) (crl_number delta)

@@ -11,7 +11,7 @@ Check = List ℕ → Key → List ℕ → List ℕ → Bool
 -- the certificate; the key that signed it, and the keyUsage of its issuer's certificate, where that
 -- states one; the moment; the check of signatures; the complete CRLs and the delta CRLs at hand,
 -- each in order; whether delta CRLs are used (use-deltas)
-pub record Question : Type 0 where
+pub record StatusQuestion : Type 0 where
   pub certificate : Certificate
   pub key : Key
   pub usage : Option (List Bool)

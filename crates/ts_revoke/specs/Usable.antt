@@ -13,17 +13,17 @@ use Rattle.ts_ext.specs.Points.{PointName, fullName, Point, ListScope, points_of
 use Rattle.ts_ext.specs.Reading.{basic_constraints_of}
 use Rattle.ts_field.specs.declared.time.Time.{Time}
 use Rattle.ts_cert.specs.Certificate.{Certificate}
-use Rattle.ts_cert.specs.Stated.{stated}
+use Rattle.ts_cert.specs.Stated.{stated_value}
 use Rattle.ts_crl.specs.List.{CertificateList}
 use Rattle.ts_crl.specs.Profile.{scope_of, is_delta, is_relative_name}
 use Rattle.ts_revoke.specs.Names.{share}
-use Rattle.ts_revoke.specs.Question.{Question}
+use Rattle.ts_revoke.specs.Question.{StatusQuestion}
 use Rattle.ts_revoke.specs.Reasons.{reasons_where, all_reasons, intersection}
 
 -- ---- the CRL
 
 -- its issuer is the same as the certificate's (6.3.3 (b) (1))
-abbrev pub has_issuer : Question → CertificateList → Bool
+abbrev pub has_issuer : StatusQuestion → CertificateList → Bool
 has_issuer q l = is_same_name l.tbsCertList.issuer q.certificate.tbsCertificate.issuer
 
 -- a time that is stated is at or after the moment
@@ -37,12 +37,12 @@ is_current moment l = int_le l.tbsCertList.thisUpdate.moment moment
     && is_at_or_after moment l.tbsCertList.nextUpdate
 
 -- the issuer's certificate, where it states a keyUsage, has cRLSign (6.3.3 (f))
-abbrev pub may_sign : Option (List Bool) → Bool
-may_sign None = true
-may_sign (Some bits) = bit 6 bits
+abbrev pub may_sign_crl : Option (List Bool) → Bool
+may_sign_crl None = true
+may_sign_crl (Some bits) = bit 6 bits
 
 -- the key that signed the certificate signed the CRL (6.3.3 (f) and (g), in this profile)
-abbrev pub is_signed : Question → CertificateList → Bool
+abbrev pub is_signed : StatusQuestion → CertificateList → Bool
 is_signed q l = q.good l.signatureAlgorithm.whole q.key l.tbs l.signatureValue
 
 -- the certificate is that of a CA: it has basicConstraints with cA TRUE
@@ -50,8 +50,8 @@ abbrev pub says_ca : Option BasicConstraints → Bool
 says_ca None = false
 says_ca (Some b) = b.ca
 
-abbrev pub is_ca : Certificate → Bool
-is_ca c = says_ca (stated BasicConstraintsOf basic_constraints_of c.tbsCertificate)
+abbrev pub has_ca_flag : Certificate → Bool
+has_ca_flag c = says_ca (stated_value BasicConstraintsOf basic_constraints_of c.tbsCertificate)
 
 -- an issuing distribution point, where there is one, has onlyContainsAttributeCerts FALSE,
 -- onlyContainsUserCerts TRUE only for a certificate that is not a CA's, and onlyContainsCACerts
@@ -64,13 +64,13 @@ covers ca (Some s) =
 
 -- all that is asked of a CRL, at whatever distribution point: a delta CRL is used with a complete
 -- one alone (5.2.4)
-unfoldable pub serves : Question → CertificateList → Bool
+unfoldable pub serves : StatusQuestion → CertificateList → Bool
 serves q l =
     not (is_delta l)
     && (has_issuer q l
     && (is_current q.moment l
-    && (may_sign q.usage
-    && (covers (is_ca q.certificate) (scope_of l)
+    && (may_sign_crl q.usage
+    && (covers (has_ca_flag q.certificate) (scope_of l)
     && is_signed q l))))
 
 -- ---- the CRL and the distribution point
@@ -101,7 +101,7 @@ abbrev pub mask_of : Point → Option ListScope → ReasonSet
 mask_of p scope = intersection (scope_reasons scope) (reasons_in p.reasons)
 
 -- a pair is usable, unless its mask is empty: such a pair is left out where the passes take theirs
-abbrev pub is_usable : Question → Point → CertificateList → Bool
+abbrev pub is_usable : StatusQuestion → Point → CertificateList → Bool
 is_usable q p l = serves q l && is_named p (scope_of l)
 
 -- ---- the distribution points
@@ -112,7 +112,7 @@ is_own p = is_none p.cRLIssuer && not (is_relative_name p.distributionPoint)
 
 -- those that the certificate states, and of them those of pass 1, in order
 abbrev pub all_points : Certificate → List Point
-all_points c = unwrap_or (stated CrlDistributionPoints points_of c.tbsCertificate) []
+all_points c = unwrap_or (stated_value CrlDistributionPoints points_of c.tbsCertificate) []
 
 abbrev pub own_points : Certificate → List Point
 own_points c = filter is_own (all_points c)

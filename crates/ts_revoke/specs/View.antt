@@ -8,9 +8,9 @@ use Rattle.ts_crl.specs.ListView.{crl_in}
 use Rattle.ts_revoke.specs.declared.crls.Crls.{Crls}
 use Rattle.ts_revoke.specs.declared.issuer.Issuer.{Issuer}
 use Rattle.ts_revoke.specs.declared.question.Question as lent
-use Rattle.ts_revoke.specs.Question.{Check, Question}
+use Rattle.ts_revoke.specs.Question.{Check, StatusQuestion}
 
-abbrev pub question_of : Crls → Cert → Issuer → ℤ → Check → Bool → Question
+abbrev pub question_of : Crls → Cert → Issuer → ℤ → Check → Bool → StatusQuestion
 question_of crls cert issuer moment good use_deltas =
     record {
       certificate = cert_in cert;
@@ -24,5 +24,5 @@ question_of crls cert issuer moment good use_deltas =
     }
 
 -- the same, gathered
-abbrev pub question_in : lent.Question → Check → Question
+abbrev pub question_in : lent.Question → Check → StatusQuestion
 question_in q good = question_of q.crls.now q.cert.now q.issuer.now q.moment good q.use_deltas

@@ -1,7 +1,7 @@
 //! The status of a certificate.
 
 ghost use Rattle.std.specs.Prelude.{◌≡◌};
-ghost use Rattle.ts_revoke.specs.ByList.{by_list};
+ghost use Rattle.ts_revoke.specs.inside.ByList.{by_list};
 ghost use Rattle.ts_revoke.specs.Status.{status_of};
 ghost use Rattle.ts_revoke.specs.View.{question_of, question_in};
 

@@ -7,7 +7,8 @@ ghost use Rattle.ts_cert.specs.CertView.{cert_in};
 ghost use Rattle.ts_crl.specs.ListView.{crl_in};
 ghost use Rattle.ts_crl.specs.Slots.{is_same_slot};
 ghost use Rattle.ts_revoke.specs.Listed.{counts_for as counts_for_list};
-ghost use Rattle.ts_revoke.specs.Listed.{listed_in as listed_in_list, delta_of as delta_of_list};
+ghost use Rattle.ts_revoke.specs.Listed.{reason_in_list as listed_in_list};
+ghost use Rattle.ts_revoke.specs.Listed.{delta_of as delta_of_list};
 ghost use Rattle.ts_revoke.specs.Listed.{listed as listed_of};
 ghost use Rattle.ts_revoke.specs.View.{question_in};
 

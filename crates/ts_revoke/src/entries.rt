@@ -4,14 +4,14 @@ ghost use Rattle.std.specs.Prelude.{◌≡◌};
 ghost use Rattle.ts_crl.specs.EntryView.{entry_in};
 ghost use Rattle.ts_crl.specs.ListView.{crl_in};
 ghost use Rattle.ts_revoke.specs.Decision.{revoking as revoking_of};
-ghost use Rattle.ts_revoke.specs.Listed.{code_of, listed_in as listed_in_list};
+ghost use Rattle.ts_revoke.specs.Listed.{entry_reason, reason_in_list as listed_in_list};
 
 use ts_crl::{Crl, Entry};
 use ts_der::Integer;
 
 /// The number of the reason that an entry gives, 0 (unspecified) where it gives none.
 fn code(entry: &Entry<'_>) -> u8
-    ensures { result ≡ code_of (entry_in entry.now) }
+    ensures { result ≡ entry_reason (entry_in entry.now) }
 {
     match entry.reason_code() {
         Some(reason) => reason.number(),

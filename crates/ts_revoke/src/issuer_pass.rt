@@ -4,9 +4,9 @@ ghost use Rattle.std.specs.Prelude.{◌≡◌, map, option_map};
 ghost use Rattle.ts_ext.specs.NameViews.{point_name_in, issuing_point_in};
 ghost use Rattle.ts_cert.specs.CertView.{cert_in};
 ghost use Rattle.ts_crl.specs.ListView.{crl_in};
-ghost use Rattle.ts_revoke.specs.ByList.{is_taken as is_taken_at, revoked_at, reasons_at};
-ghost use Rattle.ts_revoke.specs.ByList.{status_after};
-ghost use Rattle.ts_revoke.specs.Looked.{IsLooked, AreLooked};
+ghost use Rattle.ts_revoke.specs.inside.ByList.{is_taken as is_taken_at, revoked_at, reasons_at};
+ghost use Rattle.ts_revoke.specs.inside.ByList.{status_after};
+ghost use Rattle.ts_revoke.specs.inside.Looked.{IsLooked, AreLooked};
 ghost use Rattle.ts_revoke.specs.Usable.{name_shared, is_named, issuer_point};
 ghost use Rattle.ts_revoke.specs.View.{question_in};
 
@@ -46,7 +46,7 @@ fn is_for_issuer(cert: &Cert<'_>, scope: &Option<IssuingDistributionPoint<'_>>) 
 
 /// Whether pass 2 uses a CRL, when these reasons are covered. The names come last, so that only a
 /// signed CRL has its names compared.
-#[tactic(auto, unfolding(crate::specs::ByList::is_taken))]
+#[tactic(auto, unfolding(crate::specs::inside::ByList::is_taken))]
 fn is_taken<S: SignatureCheck>(
     looked: Looked,
     crl: &Crl<'_>,
@@ -65,7 +65,7 @@ fn is_taken<S: SignatureCheck>(
 }
 
 /// What one CRL says in pass 2: the reason for which it revokes, and its mask.
-#[tactic(auto, unfolding(crate::specs::ByList::revoked_at, crate::specs::ByList::reasons_at))]
+#[tactic(auto, unfolding(crate::specs::inside::ByList::revoked_at, crate::specs::inside::ByList::reasons_at))]
 fn said_by<S: SignatureCheck>(
     looked: Looked,
     crl: &Crl<'_>,

@@ -6,9 +6,9 @@ ghost use Rattle.ts_revoke.specs.declared.verdict.Status.TheVariants.{Good, Unde
 ghost use Rattle.ts_revoke.specs.Pairs.{Pair, Pairs};
 ghost use Rattle.ts_revoke.specs.Decision.{status};
 ghost use Rattle.ts_revoke.specs.Loop.{loop, IsOrder, RevokesInSomeOrder};
-ghost use Rattle.ts_revoke.specs.Question.{Question};
+ghost use Rattle.ts_revoke.specs.Question.{StatusQuestion};
 ghost use Rattle.ts_revoke.specs.Status.{status_of};
-ghost use Rattle.ts_revoke.specs.ByList.{by_list};
+ghost use Rattle.ts_revoke.specs.inside.ByList.{by_list};
 
 /// Where the status is `Good` or `Undetermined`, the loop of RFC 5280 6.3.3 answers the same in
 /// every order of the pairs within a pass; where it is `Revoked`, the loop answers so in some
@@ -23,5 +23,5 @@ pub fn in_any_order()
 
 /// CRL by CRL the passes find what they find pair by pair.
 fn whole()
-    ensures { (q : Question) → by_list q ≡ status_of q }
+    ensures { (q : StatusQuestion) → by_list q ≡ status_of q }
 {}

@@ -29,10 +29,10 @@
 //!
 //! `status` allocates nothing but what its signature check does. The definition goes through the
 //! distribution points and at each through all CRLs; the code goes through the CRLs and at each
-//! through all points (`specs/ByList`), and keeps on the stack what pass 1 learned of each CRL
-//! (`specs/Looked`). So a CRL's signature is checked once at most and its entries are searched once
-//! at most, in both passes together, whatever the certificate says; only of CRLs after the first
-//! 1,024 it is once in each pass.
+//! through all points (`specs/inside/ByList`), and keeps on the stack what pass 1 learned of each
+//! CRL (`specs/inside/Looked`). So a CRL's signature is checked once at most and its entries are
+//! searched once at most, in both passes together, whatever the certificate says; only of CRLs
+//! after the first 1,024 it is once in each pass.
 //!
 //! # Not promised
 //!

@@ -6,7 +6,7 @@ ghost use Rattle.ts_crl.specs.ListView.{crl_in};
 ghost use Rattle.ts_revoke.specs.declared.looked.Looked.TheVariants.{NotYet};
 ghost use Rattle.ts_revoke.specs.Decision.{revoking as revoking_of};
 ghost use Rattle.ts_revoke.specs.Listed.{listed as listed_of};
-ghost use Rattle.ts_revoke.specs.Looked.{IsLooked};
+ghost use Rattle.ts_revoke.specs.inside.Looked.{IsLooked};
 ghost use Rattle.ts_revoke.specs.Usable.{serves as serves_of};
 ghost use Rattle.ts_revoke.specs.View.{question_in};
 

@@ -8,7 +8,7 @@ ghost use Rattle.ts_ext.specs.NameViews.{points_in};
 ghost use Rattle.ts_ext.specs.Points.{point_item};
 ghost use Rattle.ts_crl.specs.ListView.{crl_in};
 ghost use Rattle.ts_crl.specs.Profile.{scope_of};
-ghost use Rattle.ts_revoke.specs.ByList.{offered, is_for_some as is_for_some_of};
+ghost use Rattle.ts_revoke.specs.inside.ByList.{offered, is_for_some as is_for_some_of};
 
 use crate::points::{is_for_some, own_reasons};
 use crate::reasons::{is_within, union};

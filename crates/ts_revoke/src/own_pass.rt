@@ -5,10 +5,11 @@ ghost use Rattle.ts_ext.specs.NamedBits.{no_reasons};
 ghost use Rattle.ts_ext.specs.NameViews.{points_in};
 ghost use Rattle.ts_cert.specs.CertView.{cert_in};
 ghost use Rattle.ts_crl.specs.ListView.{crl_in};
-ghost use Rattle.ts_revoke.specs.ByList.{offered as offered_by_points, at_place};
-ghost use Rattle.ts_revoke.specs.ByList.{earlier as earlier_of, found_by, reasons_by, found_after};
-ghost use Rattle.ts_revoke.specs.ByList.{reasons_after};
-ghost use Rattle.ts_revoke.specs.Looked.{IsLooked, AreLooked};
+ghost use Rattle.ts_revoke.specs.inside.ByList.{offered as offered_by_points, at_place};
+ghost use Rattle.ts_revoke.specs.inside.ByList.{earlier as earlier_of, found_by, reasons_by};
+ghost use Rattle.ts_revoke.specs.inside.ByList.{found_after};
+ghost use Rattle.ts_revoke.specs.inside.ByList.{reasons_after};
+ghost use Rattle.ts_revoke.specs.inside.Looked.{IsLooked, AreLooked};
 ghost use Rattle.ts_revoke.specs.Usable.{all_points, serves as serves_of};
 ghost use Rattle.ts_revoke.specs.View.{question_in};
 
@@ -54,7 +55,7 @@ fn nothing(looked: Looked) -> Said
 }
 
 /// The revocation at the lesser place, of two; of two at one place, the first.
-#[tactic(auto, unfolding(crate::specs::ByList::earlier))]
+#[tactic(auto, unfolding(crate::specs::inside::ByList::earlier))]
 fn earlier(found: Option<Found>, next: Option<Found>) -> Option<Found>
     ensures { result ≡ earlier_of found next }
 {
@@ -77,7 +78,7 @@ fn found_at(place: usize, reason: Option<u8>) -> Option<Found>
 
 /// What a CRL that serves says in pass 1. Its entries are searched only where it is used at some
 /// point.
-#[tactic(auto, unfolding(crate::specs::ByList::found_by, crate::specs::ByList::reasons_by))]
+#[tactic(auto, unfolding(crate::specs::inside::ByList::found_by, crate::specs::inside::ByList::reasons_by))]
 fn said_where_served<S: SignatureCheck>(
     points: &Option<DistributionPoints<'_>>,
     crl: &Crl<'_>,

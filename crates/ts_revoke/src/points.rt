@@ -3,7 +3,7 @@
 ghost use Rattle.std.specs.Prelude.{◌≡◌, option_map};
 ghost use Rattle.ts_der.specs.BitsView.{bits_in};
 ghost use Rattle.ts_ext.specs.NameViews.{point_name_in, point_in, issuing_point_in};
-ghost use Rattle.ts_revoke.specs.ByList.{offered_by, is_for_some as is_for_some_of};
+ghost use Rattle.ts_revoke.specs.inside.ByList.{offered_by, is_for_some as is_for_some_of};
 ghost use Rattle.ts_revoke.specs.Reasons.{all_reasons, intersection as both};
 ghost use Rattle.ts_revoke.specs.Usable.{reasons_in, scope_reasons as reasons_of_scope, mask_of};
 ghost use Rattle.ts_revoke.specs.Usable.{name_shared, is_named as is_named_at};

@@ -8,8 +8,8 @@ ghost use Rattle.ts_shape.specs.Items.{items_at};
 ghost use Rattle.ts_ext.specs.NamedBits.{no_reasons};
 ghost use Rattle.ts_ext.specs.NameViews.{point_in, points_in, issuing_point_in};
 ghost use Rattle.ts_ext.specs.Points.{point_item};
-ghost use Rattle.ts_revoke.specs.ByList.{is_reached as is_reached_at, first_reached};
-ghost use Rattle.ts_revoke.specs.ByList.{reached_reasons};
+ghost use Rattle.ts_revoke.specs.inside.ByList.{is_reached as is_reached_at, first_reached};
+ghost use Rattle.ts_revoke.specs.inside.ByList.{reached_reasons};
 ghost use Rattle.ts_revoke.specs.Decision.{or_reason};
 ghost use Rattle.ts_revoke.specs.Usable.{mask_of};
 
@@ -29,7 +29,7 @@ pub(crate) struct Reach {
 
 /// Whether pass 1 uses a CRL of this scope at a distribution point. The names come last, since they
 /// cost most.
-#[tactic(auto, unfolding(crate::specs::ByList::is_reached))]
+#[tactic(auto, unfolding(crate::specs::inside::ByList::is_reached))]
 fn is_reached(point: &DistributionPoint<'_>, scope: &Option<IssuingDistributionPoint<'_>>) -> bool
     ensures { result ≡ is_reached_at (option_map issuing_point_in scope.now) (point_in point.now) }
 {

@@ -5,7 +5,7 @@ ghost use Rattle.ts_der.specs.BitsView.{bits_in};
 ghost use Rattle.ts_ext.specs.NamedBits.{bit, flag_number};
 ghost use Rattle.ts_revoke.specs.Reasons.{reasons_where, all_reasons, intersection as both};
 ghost use Rattle.ts_revoke.specs.Reasons.{union as either, is_all as is_all_reasons};
-ghost use Rattle.ts_revoke.specs.Reasons.{is_within as lies_within};
+ghost use Rattle.ts_revoke.specs.Reasons.{is_subset as lies_within};
 
 use ts_ext::{ReasonFlags, ReasonSet};
 
@@ -53,7 +53,7 @@ pub(crate) fn is_all(s: ReasonSet) -> bool
 }
 
 /// Whether a set holds no reason that another one lacks.
-#[tactic(auto, unfolding(crate::specs::Reasons::is_within))]
+#[tactic(auto, unfolding(crate::specs::Reasons::is_subset))]
 pub(crate) fn is_within(s: ReasonSet, t: ReasonSet) -> bool
     ensures { result ≡ lies_within s t }
 {

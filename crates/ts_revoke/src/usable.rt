@@ -6,8 +6,9 @@ ghost use Rattle.ts_ext.specs.NameViews.{issuing_point_in};
 ghost use Rattle.ts_cert.specs.CertView.{cert_in};
 ghost use Rattle.ts_crl.specs.ListView.{crl_in};
 ghost use Rattle.ts_revoke.specs.Usable.{is_current as is_current_list};
-ghost use Rattle.ts_revoke.specs.Usable.{is_signed as is_signed_list, may_sign as usage_may_sign};
-ghost use Rattle.ts_revoke.specs.Usable.{is_ca as is_ca_of, covers as scope_covers};
+ghost use Rattle.ts_revoke.specs.Usable.{is_signed as is_signed_list};
+ghost use Rattle.ts_revoke.specs.Usable.{may_sign_crl as usage_may_sign};
+ghost use Rattle.ts_revoke.specs.Usable.{has_ca_flag as is_ca_of, covers as scope_covers};
 ghost use Rattle.ts_revoke.specs.Usable.{serves as serves_of};
 ghost use Rattle.ts_revoke.specs.View.{question_in};
 

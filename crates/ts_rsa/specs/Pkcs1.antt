@@ -1,5 +1,6 @@
 -- RFC 8017 8.2.2 and 9.2: signatures of RSASSA-PKCS1-v1_5.
-use Rattle.std.specs.Prelude.{◌≡◌, ℕ, ◌+◌, ◌-◌, ◌%◌, ◌^◌, ◌<◌, ◌≤◌, List, [], ◌∷◌, ◌++◌, length, replicate}
+use Rattle.std.specs.Prelude.{◌≡◌, ℕ, ◌+◌, ◌-◌, ◌%◌, ◌^◌, ◌<◌, ◌≤◌, List, [], ◌∷◌, ◌++◌, length}
+use Rattle.std.specs.Prelude.{replicate}
 use Rattle.ts_digest.specs.declared.hash.Hash.{Hash}
 use Rattle.ts_digest.specs.declared.hash.Hash.TheVariants.{Sha256, Sha384, Sha512}
 use Rattle.ts_rsa.specs.Octets.{os2ip, i2osp}

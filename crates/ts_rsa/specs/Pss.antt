@@ -1,6 +1,7 @@
 -- RFC 8017 8.1.2, 9.1.2 and B.2.1: signatures of RSASSA-PSS. MGF1 has the same hash function as the
 -- message, and the salt is as long as the hash.
-use Rattle.std.specs.Prelude.{◌≡◌, ℕ, ◌+◌, ◌-◌, ◌*◌, ◌/◌, ◌%◌, ◌^◌, ◌<◌, ◌≤◌, List, [], ◌∷◌, ◌++◌, length, take, drop, replicate, slice_index, bit_xor}
+use Rattle.std.specs.Prelude.{◌≡◌, ℕ, ◌+◌, ◌-◌, ◌*◌, ◌/◌, ◌%◌, ◌^◌, ◌<◌, ◌≤◌, List, [], ◌∷◌, ◌++◌}
+use Rattle.std.specs.Prelude.{length, take, drop, replicate, slice_index, bit_xor}
 use Rattle.ts_digest.specs.declared.hash.Hash.{Hash}
 use Rattle.ts_rsa.specs.Octets.{os2ip, i2osp}
 use Rattle.ts_digest.specs.Hash.{hash_size, hash_of}

@@ -1,5 +1,6 @@
 -- The relations of a key and of signatures as tests that compute.
-use Rattle.std.specs.Prelude.{ℕ, ◌+◌, ◌-◌, ◌*◌, ◌%◌, ◌^◌, Bool, ◌&&◌, nat_eq, nat_lt, nat_le, List, ◌∷◌, ◌++◌, length, replicate, slice_index}
+use Rattle.std.specs.Prelude.{ℕ, ◌+◌, ◌-◌, ◌*◌, ◌%◌, ◌^◌, Bool, ◌&&◌, nat_eq, nat_lt, nat_le, List}
+use Rattle.std.specs.Prelude.{◌∷◌, ◌++◌, length, replicate, slice_index}
 use Rattle.std.specs.Str.{bytes_eq}
 use Rattle.ts_digest.specs.declared.hash.Hash.{Hash}
 use Rattle.ts_rsa.specs.declared.key.KeyBounds.{KeyBounds}
@@ -7,7 +8,8 @@ use Rattle.ts_rsa.specs.Octets.{os2ip, i2osp}
 use Rattle.ts_digest.specs.Hash.{hash_size, hash_of}
 use Rattle.ts_rsa.specs.Key.{bit_length}
 use Rattle.ts_rsa.specs.Pkcs1.{digest_info, encoded_around}
-use Rattle.ts_rsa.specs.Pss.{first_octet_limit, hash_in, data_block, zeros_in, salt_in, octets_of_bits}
+use Rattle.ts_rsa.specs.Pss.{first_octet_limit, hash_in, data_block, zeros_in, salt_in}
+use Rattle.ts_rsa.specs.Pss.{octets_of_bits}
 
 -- IsKey
 unfoldable pub key_test : KeyBounds → List ℕ → ℕ → Bool

@@ -1,10 +1,12 @@
 //! RSASSA-PSS (RFC 8017 8.1) and its encoding EMSA-PSS (9.1).
 
-ghost use Rattle.std.specs.Prelude.{◌≡◌, ℕ, ◌+◌, ◌-◌, ◌*◌, ◌^◌, ◌<◌, ◌≤◌, ◌↔◌, ◌++◌, ◌∷◌, length, drop, replicate, slice_index, IsTrue, EachIndex};
+ghost use Rattle.std.specs.Prelude.{◌≡◌, ℕ, ◌+◌, ◌-◌, ◌*◌, ◌^◌, ◌<◌, ◌≤◌, ◌↔◌, ◌++◌, ◌∷◌, length};
+ghost use Rattle.std.specs.Prelude.{drop, replicate, slice_index, IsTrue, EachIndex};
 ghost use Rattle.ts_rsa.specs.Octets.{os2ip};
 ghost use Rattle.ts_digest.specs.Hash.{hash_size, hash_of};
 ghost use Rattle.ts_rsa.specs.Key.{bit_length, IsKey};
-ghost use Rattle.ts_rsa.specs.Pss.{first_octet_limit, data_block, hash_in, salt_in, zeros_in, IsPssEncoding, IsPssSignature};
+ghost use Rattle.ts_rsa.specs.Pss.{first_octet_limit, data_block, hash_in, salt_in, zeros_in};
+ghost use Rattle.ts_rsa.specs.Pss.{IsPssEncoding, IsPssSignature};
 ghost use Rattle.ts_rsa.specs.Tests.{pss_accepts};
 
 use crate::key::{KeyBounds, OCTETS, bits_of, is_key};

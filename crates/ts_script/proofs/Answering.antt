@@ -12,7 +12,8 @@ use Rattle.ts_make.specs.Making.{AnswersMade}
 use Rattle.ts_script.specs.declared.cert_line.CertWords.{CertWords}
 use Rattle.ts_script.specs.declared.script.LineFault.{LineFault}
 use Rattle.ts_script.specs.declared.script.LineFault.TheVariants.{Unknown, Form, Name, Limit, Message, Memory}
-use Rattle.ts_script.specs.Words.{IsName, IsNumber, IsHex, IsDn}
+use Rattle.ts_literal.specs.Literals.{IsNumber}
+use Rattle.ts_script.specs.Words.{IsName, IsHex, IsDn}
 use Rattle.ts_script.specs.Parts.{part_in}
 use Rattle.ts_script.specs.ExtensionWords.{AreParts}
 use Rattle.ts_script.specs.Known.{Entry}

@@ -10,9 +10,12 @@ use Rattle.ts_make.specs.declared.crl_description.EntryText.{EntryText}
 use Rattle.ts_make.specs.Told.{list_of}
 use Rattle.ts_script.specs.declared.crl_words.CrlKeyword.{CrlKeyword}
 use Rattle.ts_script.specs.declared.crl_words.CrlKeyword.TheVariants as keyword
-use Rattle.ts_script.specs.Words.{IsNumber}
+use Rattle.ts_literal.specs.Literals.{IsNumber}
 use Rattle.ts_script.specs.ExtensionWords.{IsText, IsDotted, IsNumbers}
-use Rattle.ts_script.specs.CrlLineWords.{CrlPart, revoked, numbered, based, some_reasons, at_uri, critical_unknown, crl_keyword_text, IsReason, IsEntry, SaysPart, SaysCrl, IsCrlWord, AreCrlWords, Fields, Gather, AreFields}
+use Rattle.ts_script.specs.CrlLineWords.{CrlPart, revoked, numbered, based, some_reasons, at_uri}
+use Rattle.ts_script.specs.CrlLineWords.{critical_unknown, crl_keyword_text, IsReason, IsEntry}
+use Rattle.ts_script.specs.CrlLineWords.{SaysPart, SaysCrl, IsCrlWord, AreCrlWords, Fields, Gather}
+use Rattle.ts_script.specs.CrlLineWords.{AreFields}
 use Rattle.ts_script.proofs.OneParts.{one_number, one_numbers, one_text, one_oid}
 
 append_cancel : (xs v w : List ℕ) → xs ++ v ≡ xs ++ w → v ≡ w
@@ -179,7 +182,10 @@ CrlReadsOn-start words = record { back = λ more are. are; on = λ all are. (all
 pub CrlReadsOn-next : (words left behind : List (List ℕ)) (word : List ℕ) (parts : List CrlPart) (first : CrlPart) → left ≡ word ∷ behind
     → IsCrlWord word first → CrlReadsOn words parts left → CrlReadsOn words (parts ++ first ∷ []) behind
 CrlReadsOn-next words left behind word parts first is says reads = record {
-  back = λ more are. subst (AreCrlWords words) (sym (append_assoc parts (first ∷ []) more)) (reads.back (first ∷ more) (subst (λ (ws : List (List ℕ)). AreCrlWords ws (first ∷ more)) (sym is) (first, more, says, are, refl)));
+  back = λ more are. subst (AreCrlWords words) (sym (append_assoc parts (first ∷ []) more))
+      (reads.back (first ∷ more)
+      (subst (λ (ws : List (List ℕ)). AreCrlWords ws (first ∷ more)) (sym is)
+      (first, more, says, are, refl)));
   on = λ all are.
       let found = reads.on all are in
       let here = subst (λ (ws : List (List ℕ)). AreCrlWords ws found.0) is found.1 in

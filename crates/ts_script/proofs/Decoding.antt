@@ -5,7 +5,8 @@ use Rattle.std.specs.Fmt.{decimal}
 use Rattle.ts_script.specs.declared.script.LineFault.{LineFault}
 use Rattle.ts_script.specs.declared.script.LineFault.TheVariants.{Unknown, Form, Name, Limit, Message, Memory}
 use Rattle.ts_script.specs.Pieces.{pieces_of}
-use Rattle.ts_script.specs.Words.{IsNumber, RefusesWord}
+use Rattle.ts_literal.specs.Literals.{IsNumber}
+use Rattle.ts_script.specs.Words.{RefusesWord}
 use Rattle.ts_script.specs.Parts.{Part}
 use Rattle.ts_script.specs.ExtensionWords.{IsNumbers, IsWord, AreWords}
 use Rattle.ts_script.proofs.OneParts.{one_word_said}
@@ -30,7 +31,10 @@ ReadsOn-start words = record { back = λ more are. are; on = λ all are. (all, a
 pub ReadsOn-next : (words left behind : List (List ℕ)) (word : List ℕ) (parts first : List Part) → left ≡ word ∷ behind → IsWord word first
     → ReadsOn words parts left → ReadsOn words (parts ++ first) behind
 ReadsOn-next words left behind word parts first is says reads = record {
-  back = λ more are. subst (AreWords words) (sym (append_assoc parts first more)) (reads.back (first ++ more) (subst (λ (ws : List (List ℕ)). AreWords ws (first ++ more)) (sym is) (first, more, says, are, refl)));
+  back = λ more are. subst (AreWords words) (sym (append_assoc parts first more))
+      (reads.back (first ++ more)
+      (subst (λ (ws : List (List ℕ)). AreWords ws (first ++ more)) (sym is)
+      (first, more, says, are, refl)));
   on = λ all are.
       let found = reads.on all are in
       let here = subst (λ (ws : List (List ℕ)). AreWords ws found.0) is found.1 in

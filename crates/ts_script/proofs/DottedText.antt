@@ -10,7 +10,7 @@ use Rattle.std.proofs.lemmas.Option.{option_and_then_some}
 use Rattle.std.proofs.lemmas.Str.{IsUtf8-from_ascii}
 use Rattle.std.proofs.lemmas.Str.Ascii.{IsAscii-from_all}
 use Rattle.std.proofs.lemmas.List.Elements.{All-from_recursion}
-use Rattle.ts_der.specs.DottedReading.{arc_with, arcs_from, content_of, content_in}
+use Rattle.ts_der.specs.inside.DottedReading.{arc_with, arcs_from, content_of, content_in}
 use Rattle.ts_der.proofs.OidLaws.{content_read}
 use Rattle.ts_script.specs.ExtensionWords.{IsText, IsDotted}
 

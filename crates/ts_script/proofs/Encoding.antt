@@ -1,18 +1,15 @@
 -- What words are written as.
-use Rattle.std.proofs.Common.{◌≡◌, ◌≢◌, ◌∙◌, refl, sym, ap, subst, ℕ, ◌<◌, ◌^◌, true, false, List, [], ◌∷◌, ◌++◌, map, Result, Ok, Err, is_ok, Option, None, is_some, Bool, MatchOption, ◌⊎◌, inl, inr, arith}
+use Rattle.std.proofs.Common.{◌≡◌, ◌≢◌, ◌∙◌, refl, sym, ap, subst, ℕ, ◌<◌, true, false, List, []}
+use Rattle.std.proofs.Common.{◌∷◌, ◌++◌, map, Ok, Err, Bool, ◌⊎◌, inl, inr, arith}
 use Rattle.std.specs.Char.{is_ascii_alphanumeric}
 use mathlib.Core.Bool.{not}
-use Rattle.std.specs.Bool.{then_some}
 use Rattle.std.specs.Str.{IsUtf8, bytes_eq}
-use Rattle.std.specs.Str.Parse.{ParsesUnsigned}
-use Rattle.std.specs.Fmt.{decimal}
 use Rattle.std.proofs.lemmas.Bool.Decides.{nat_tests}
 use Rattle.std.proofs.lemmas.Slice.Eq.{bytes_eq-Decides}
 use Rattle.std.proofs.lemmas.List.Elements.{All-weaker}
 use Rattle.std.proofs.lemmas.List.Sums.{AllPass-from_list_all}
 use Rattle.std.proofs.lemmas.Str.{IsUtf8-from_ascii}
 use Rattle.std.proofs.lemmas.Str.Ascii.{IsAscii-from_all}
-use Rattle.std.proofs.lemmas.Fmt.{IsAscii-decimal, parse-decimal}
 use Rattle.hex.specs.Hex.{decode_of, encode_lower}
 use Rattle.hex.specs.declared.error.FromHexError.{FromHexError}
 use Rattle.hex.specs.declared.error.FromHexError.TheVariants.{InvalidHexCharacter, OddLength, InvalidStringLength, OutOfMemory}
@@ -21,7 +18,7 @@ use Rattle.ts_make.specs.declared.description.RdnText.{RdnText}
 use Rattle.ts_make.specs.Sayable.{AreTexts}
 use Rattle.ts_script.specs.declared.script.LineFault.{LineFault}
 use Rattle.ts_script.specs.Pieces.{pieces_of}
-use Rattle.ts_script.specs.Words.{IsName, IsNumber, IsHex, IsRdn, IsDn, RefusesWord, rdn_word}
+use Rattle.ts_script.specs.Words.{IsName, IsHex, IsRdn, IsDn, RefusesWord, rdn_word}
 use Rattle.ts_script.specs.Wrong.{hex_fault}
 
 bytes_eq-true : (xs ys : List ℕ) → bytes_eq xs ys ≡ true → xs ≡ ys
@@ -47,16 +44,6 @@ IsName-IsUtf8 word is =
     IsUtf8-from_ascii word (IsAscii-from_all word (All-weaker (λ x. is_ascii_alphanumeric x ≡ true) (λ x. x < 128) alphanumeric_small word
     (AllPass-from_list_all is_ascii_alphanumeric word is.1)))
 
--- a number is text
-pub IsNumber-IsUtf8 : (word : List ℕ) (n : ℕ) → IsNumber word n → IsUtf8 word
-IsNumber-IsUtf8 word n is =
-    let small : n < 2 ^ 64 = omega (arith, is.range) in
-    rw is.written (IsUtf8-from_ascii (decimal n) (IsAscii-decimal n small))
-
--- and is parsed
-pub IsNumber-parsed : {E : Type 0} (word : List ℕ) (n : ℕ) (r : Result ℕ E) → IsNumber word n → ParsesUnsigned 32 10 word r → r ≡ Ok n
-IsNumber-parsed word n r is parses = parse-decimal 32 n word r is.range (omega (arith, is.range)) is.written parses
-
 -- octets are decoded
 pub IsHex-decoded : (word octets : List ℕ) → IsHex word octets → decode_of word ≡ Ok octets
 IsHex-decoded word octets is = ap decode_of is.written ∙ decode_of-encode_lower octets is.bytes
@@ -80,16 +67,6 @@ IsHex-one word xs ys is decodes = let e = sym (IsHex-decoded word xs is) ∙ dec
 pub hex_refused : (word : List ℕ) (error : FromHexError) (fault : LineFault) → fault ≡ hex_fault error
     → (error ≡ OutOfMemory) ⊎ (decode_of word ≡ Err error) → RefusesWord ((octets : List ℕ) → ¬ (IsHex word octets)) fault
 hex_refused word error fault is h = subst (RefusesWord ((octets : List ℕ) → ¬ (IsHex word octets))) (sym is) (hex_refused_as word error h)
-
--- a number that is written as the word is the word's
-pub number_read : (word encoded : List ℕ) (number : ℕ) (same : Bool) → encoded ≡ decimal number → number < 2 ^ 32 → same ≡ bytes_eq encoded word
-    → ((n : ℕ) → IsNumber word n → number ≡ n) → MatchOption (then_some same number) ((n : ℕ) → ¬ (IsNumber word n)) (IsNumber word)
-number_read word encoded number true encodes small is only =
-    let same : encoded ≡ word = bytes_eq-true encoded word (sym is) in
-    record { written = sym same ∙ encodes; range = small }
-number_read word encoded number false encodes small is only = λ n stands.
-    let same : encoded ≡ word = encodes ∙ (ap decimal (only n stands) ∙ sym stands.written) in
-    cc (is ∙ bytes_eq-same encoded word same)
 
 -- each piece of a distinguished name is a relative one
 pub piece_is : (xs : List (List ℕ)) (piece : List ℕ) (more : List (List ℕ)) (rdns : List RdnText) → xs ++ piece ∷ more ≡ map rdn_word rdns
@@ -119,7 +96,3 @@ hex_found word octets encoded decodes encodes same some = record {
   some = some;
   bytes = (decode_of-ok word octets decodes).3;
 }
-
--- a call that answered is not taken for one that did not
-pub refused_ok : {T E : Type 0} (r : Result T E) (o : Option T) (x : T) → is_some o ≡ is_ok r → o ≡ None → r ≡ Ok x → ⊥
-refused_ok r o x same none ok = cc (sym (ap is_some none) ∙ (same ∙ ap is_ok ok))

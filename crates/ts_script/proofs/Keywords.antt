@@ -6,7 +6,13 @@ use Rattle.std.proofs.lemmas.Slice.Eq.{bytes_eq-Decides}
 use Rattle.std.proofs.lemmas.List.Splits.{join_with_byte-slice_split}
 use Rattle.ts_script.specs.declared.keyword.NameKind.TheVariants.{Dns, Ip, Mail}
 use Rattle.ts_script.specs.declared.keyword.Keyword.{Keyword}
-use Rattle.ts_script.specs.declared.keyword.Keyword.TheVariants.{KeyUsage, SubjectAltName, BasicConstraints, PermittedSubtree, ExcludedSubtree, DistributionPoint, Policy, PolicyMapping, RequireExplicitPolicy, InhibitPolicyMapping, KeyPurpose, InhibitAnyPolicy, Critical}
+use Rattle.ts_script.specs.declared.keyword.Keyword.TheVariants.{KeyUsage, SubjectAltName}
+use Rattle.ts_script.specs.declared.keyword.Keyword.TheVariants.{BasicConstraints, PermittedSubtree}
+use Rattle.ts_script.specs.declared.keyword.Keyword.TheVariants.{ExcludedSubtree, DistributionPoint}
+use Rattle.ts_script.specs.declared.keyword.Keyword.TheVariants.{Policy, PolicyMapping}
+use Rattle.ts_script.specs.declared.keyword.Keyword.TheVariants.{RequireExplicitPolicy}
+use Rattle.ts_script.specs.declared.keyword.Keyword.TheVariants.{InhibitPolicyMapping, KeyPurpose}
+use Rattle.ts_script.specs.declared.keyword.Keyword.TheVariants.{InhibitAnyPolicy, Critical}
 use Rattle.ts_script.specs.declared.keyword.TheConstants.{KEYWORDS}
 use Rattle.ts_script.specs.Pieces.{pieces_of, pieces_behind}
 use Rattle.ts_script.specs.Parts.{Part}

@@ -7,7 +7,7 @@ use Rattle.ts_make.specs.declared.description.RdnText.{RdnText}
 use Rattle.ts_make.specs.declared.description.CertText.{CertText}
 use Rattle.ts_make.specs.Description.{kind_octets, rdn_in, rdns_in}
 use Rattle.ts_make.specs.Times.{IsTimeOf}
-use Rattle.ts_make.specs.Made.{made, tbs_octets, tbs_content, name_octets, key_octets}
+use Rattle.ts_make.specs.Made.{made_certificate, tbs_octets, tbs_content, name_octets, key_octets}
 use Rattle.ts_make.proofs.OneTime.{one-time}
 use Rattle.ts_script.specs.declared.cert_line.CertWords.{CertWords}
 use Rattle.ts_script.specs.Words.{IsDn, kind_word, rdn_word}
@@ -48,8 +48,8 @@ one_dn word xs ys is other = one_list xs ys (sym is.pieces ∙ other.pieces)
 -- what is made depends on what is described
 made_same : (before after before' after' : List ℕ) (t u : CertText) → before ≡ before' → after ≡ after' → t.serial ≡ u.serial
     → rdns_in t.issuer.now ≡ rdns_in u.issuer.now → rdns_in t.subject.now ≡ rdns_in u.subject.now → t.key.now ≡ u.key.now → t.signer.now ≡ u.signer.now
-    → described_extensions t.extensions.now ≡ described_extensions u.extensions.now → made before after t ≡ made before' after' u
-unfolding made tbs_octets tbs_content name_octets key_octets
+    → described_extensions t.extensions.now ≡ described_extensions u.extensions.now → made_certificate before after t ≡ made_certificate before' after' u
+unfolding made_certificate tbs_octets tbs_content name_octets key_octets
 made_same before after before' after' t u e f serial issuer subject key signer extensions = rw (e, f, serial, issuer, subject, key, signer, extensions) refl
 
 -- one list of octets is the certificate that the words describe

@@ -21,7 +21,7 @@ use Rattle.ts_script.specs.declared.script.LineFault.{LineFault}
 use Rattle.ts_script.specs.declared.script.LineFault.TheVariants.{Unknown, Form, Name, Limit, Message, Memory}
 use Rattle.ts_script.specs.Words.{IsName, IsHex, IsDn, RefusesWord}
 use Rattle.ts_script.specs.CrlLineWords.{Fields, AreFields, fields_of}
-use Rattle.ts_script.specs.Known.{Entry, named}
+use Rattle.ts_script.specs.Known.{Entry, thing_named}
 use Rattle.ts_script.specs.CrlLine.{crl_line, crl_words, IsListSaid, IsCrlMade, IsCrlLine, IsCrlSaid, IsNoCrl, RefusesCrlWords, RefusesCrl}
 use Rattle.ts_script.proofs.OneParts.{one_hex}
 use Rattle.ts_script.proofs.OneCertificate.{one_dn}
@@ -119,8 +119,8 @@ same_crl_name : (v w : CrlWords) → crl_line v ≡ crl_line w → v.name.now �
 unfolding crl_line
 same_crl_name v w same = cc
 
-free_again : (known : List Entry) (v w : CrlWords) → crl_line v ≡ crl_line w → named known v.name.now ≡ None → named known w.name.now ≡ None
-free_again known v w same free = subst (λ (name : List ℕ). named known name ≡ None) (same_crl_name v w same) free
+free_again : (known : List Entry) (v w : CrlWords) → crl_line v ≡ crl_line w → thing_named known v.name.now ≡ None → thing_named known w.name.now ≡ None
+free_again known v w same free = subst (λ (name : List ℕ). thing_named known name ≡ None) (same_crl_name v w same) free
 
 -- the words of a line make one list
 one_crl : (line : List ℕ) (v w : CrlWords) (octets others : List ℕ) → IsCrlLine line v → IsCrlLine line w → IsCrlMade v octets → IsCrlMade w others → octets ≡ others

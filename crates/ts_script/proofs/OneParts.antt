@@ -3,13 +3,20 @@ use Rattle.std.proofs.Common.{◌≡◌, ◌∙◌, refl, sym, ap, subst, ℕ, �
 use Rattle.std.specs.Fmt.{decimal}
 use Rattle.std.specs.List.{AllByRecursion}
 use Rattle.std.proofs.lemmas.Fmt.{decimal_injective}
-use Rattle.ts_der.specs.DottedReading.{content_in}
+use Rattle.ts_der.specs.inside.DottedReading.{content_in}
 use Rattle.ts_der.proofs.OidLaws.{content_read}
 use Rattle.ts_script.specs.declared.keyword.NameKind.{NameKind}
 use Rattle.ts_script.specs.declared.keyword.NameKind.TheVariants.{Dns, Ip, Mail}
 use Rattle.ts_script.specs.declared.keyword.Keyword.{Keyword}
-use Rattle.ts_script.specs.declared.keyword.Keyword.TheVariants.{KeyUsage, SubjectAltName, BasicConstraints, PermittedSubtree, ExcludedSubtree, DistributionPoint, Policy, PolicyMapping, RequireExplicitPolicy, InhibitPolicyMapping, KeyPurpose, InhibitAnyPolicy, Critical}
-use Rattle.ts_script.specs.Words.{IsNumber, IsHex}
+use Rattle.ts_script.specs.declared.keyword.Keyword.TheVariants.{KeyUsage, SubjectAltName}
+use Rattle.ts_script.specs.declared.keyword.Keyword.TheVariants.{BasicConstraints, PermittedSubtree}
+use Rattle.ts_script.specs.declared.keyword.Keyword.TheVariants.{ExcludedSubtree, DistributionPoint}
+use Rattle.ts_script.specs.declared.keyword.Keyword.TheVariants.{Policy, PolicyMapping}
+use Rattle.ts_script.specs.declared.keyword.Keyword.TheVariants.{RequireExplicitPolicy}
+use Rattle.ts_script.specs.declared.keyword.Keyword.TheVariants.{InhibitPolicyMapping, KeyPurpose}
+use Rattle.ts_script.specs.declared.keyword.Keyword.TheVariants.{InhibitAnyPolicy, Critical}
+use Rattle.ts_literal.specs.Literals.{IsNumber}
+use Rattle.ts_script.specs.Words.{IsHex}
 use Rattle.ts_script.specs.Parts.{Part, PartName, usage_bit}
 use Rattle.ts_script.specs.ExtensionWords.{IsText, IsDotted, IsNumbers, IsNameValue, Says, SaysValue, SaysWith, IsWord, AreWords, AreParts}
 use Rattle.ts_script.proofs.Encoding.{IsHex-decoded, IsHex-one}

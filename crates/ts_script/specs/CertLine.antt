@@ -6,16 +6,17 @@ use Rattle.ts_time.specs.Text.{IsGeneral}
 use Rattle.ts_cert.specs.Reading.{certificate_of}
 use Rattle.ts_make.specs.declared.description.CertText.{CertText}
 use Rattle.ts_make.specs.Times.{IsTimeOf}
-use Rattle.ts_make.specs.Made.{made}
+use Rattle.ts_make.specs.Made.{made_certificate}
 use Rattle.ts_script.specs.declared.cert_line.CertWords.{CertWords}
 use Rattle.ts_script.specs.declared.script.LineFault.{LineFault}
 use Rattle.ts_script.specs.declared.script.LineFault.TheVariants.{Unknown, Form, Name, Limit}
 use Rattle.ts_script.specs.declared.script.LineFault.TheVariants.{Message, Memory}
 use Rattle.ts_script.specs.Pieces.{pieces_behind}
-use Rattle.ts_script.specs.Words.{words_of, IsName, IsNumber, IsHex, IsDn}
+use Rattle.ts_literal.specs.Literals.{IsNumber}
+use Rattle.ts_script.specs.Words.{words_of, IsName, IsHex, IsDn}
 use Rattle.ts_script.specs.Parts.{part_in}
 use Rattle.ts_script.specs.ExtensionWords.{AreParts}
-use Rattle.ts_script.specs.Known.{Entry, certificate, named}
+use Rattle.ts_script.specs.Known.{Entry, certificate, thing_named}
 
 -- the words after the signer
 abbrev pub extension_words : CertWords → List (List ℕ)
@@ -45,14 +46,15 @@ pub record IsSaid (c : CertWords) (text : CertText) : Type 0 where
 abbrev pub IsMade : CertWords → List ℕ → Type 0
 IsMade c octets =
     (text : CertText) × IsSaid c text × (before : List ℕ) × (after : List ℕ)
-    × IsTimeOf before text.from × IsTimeOf after text.to × (octets ≡ made before after text)
+    × IsTimeOf before text.from × IsTimeOf after text.to
+    × (octets ≡ made_certificate before after text)
 
 -- the words of a `cert` line say a certificate that is not too long, whose number of octets is
 -- printed, and which is known by its name from then on; before, nothing was
 abbrev pub IsKept : List Entry → CertWords → List ℕ → List Entry → Type 0
 IsKept known c text after =
     (octets : List ℕ) × IsMade c octets × (length octets ≤ 65536)
-    × (is_ok (certificate_of octets) ≡ true) × (named known c.name.now ≡ None)
+    × (is_ok (certificate_of octets) ≡ true) × (thing_named known c.name.now ≡ None)
     × (after ≡ known ++ (c.name.now, certificate octets) ∷ [])
     × (text ≡ codes "cert " ++ (c.name.now
     ++ (codes " " ++ (decimal (length octets) ++ codes "\n"))))
@@ -75,8 +77,9 @@ IsUnreadable octets = (length octets ≤ 65536) × (is_ok (certificate_of octets
 abbrev pub RefusesWords : List Entry → CertWords → LineFault → Type 0
 RefusesWords known c Form = (octets : List ℕ) → IsMade c octets → IsUnreadable octets
 RefusesWords known c Name = (octets : List ℕ) × IsMade c octets × ¬ (IsUnreadable octets)
-    × (named known c.name.now ≢ None)
-RefusesWords known c Limit = (octets : List ℕ) × IsMade c octets × (named known c.name.now ≡ None)
+    × (thing_named known c.name.now ≢ None)
+RefusesWords known c Limit = (octets : List ℕ) × IsMade c octets
+    × (thing_named known c.name.now ≡ None)
     × (65536 < length octets)
 RefusesWords known c Memory = Unit {0}
 RefusesWords known c Message = ⊥

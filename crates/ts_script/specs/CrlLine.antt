@@ -18,7 +18,7 @@ use Rattle.ts_script.specs.declared.script.LineFault.TheVariants.{Message, Memor
 use Rattle.ts_script.specs.Pieces.{pieces_behind}
 use Rattle.ts_script.specs.Words.{words_of, IsName, IsHex, IsDn}
 use Rattle.ts_script.specs.CrlLineWords.{AreFields, fields_of}
-use Rattle.ts_script.specs.Known.{Entry, revocation_list, named}
+use Rattle.ts_script.specs.Known.{Entry, revocation_list, thing_named}
 
 -- the words after the signer
 abbrev pub crl_words : CrlWords → List (List ℕ)
@@ -51,7 +51,7 @@ IsCrlMade c octets =
 abbrev pub IsCrlKept : List Entry → CrlWords → List ℕ → List Entry → Type 0
 IsCrlKept known c text after =
     (octets : List ℕ) × IsCrlMade c octets × (length octets ≤ 4194304) × IsTaken (crl_of octets)
-    × (named known c.name.now ≡ None)
+    × (thing_named known c.name.now ≡ None)
     × (after ≡ known ++ (c.name.now, revocation_list octets) ∷ [])
     × (text ≡ codes "crl " ++ (c.name.now
     ++ (codes " " ++ (decimal (length octets) ++ codes "\n"))))
@@ -74,9 +74,9 @@ IsNoCrl octets = (length octets ≤ 4194304) × (fault : CertFault)
 abbrev pub RefusesCrlWords : List Entry → CrlWords → LineFault → Type 0
 RefusesCrlWords known c Form = (octets : List ℕ) → IsCrlMade c octets → IsNoCrl octets
 RefusesCrlWords known c Name = (octets : List ℕ) × IsCrlMade c octets × ¬ (IsNoCrl octets)
-    × (named known c.name.now ≢ None)
+    × (thing_named known c.name.now ≢ None)
 RefusesCrlWords known c Limit = (octets : List ℕ) × IsCrlMade c octets
-    × (named known c.name.now ≡ None) × (4194304 < length octets)
+    × (thing_named known c.name.now ≡ None) × (4194304 < length octets)
 RefusesCrlWords known c Memory = Unit {0}
 RefusesCrlWords known c Message = ⊥
 RefusesCrlWords known c Unknown = ⊥

@@ -9,7 +9,7 @@ use Rattle.ts_make.specs.Told.{list_of}
 use Rattle.ts_script.specs.declared.crl_words.CrlKeyword.{CrlKeyword}
 use Rattle.ts_script.specs.declared.crl_words.CrlKeyword.TheVariants as keyword
 use Rattle.ts_script.specs.Pieces.{pieces_of}
-use Rattle.ts_script.specs.Words.{IsNumber}
+use Rattle.ts_literal.specs.Literals.{IsNumber}
 use Rattle.ts_script.specs.ExtensionWords.{IsText, IsDotted, IsNumbers}
 
 -- what one word says: an entry, a number, a base number, reasons, a URI, or the object identifier

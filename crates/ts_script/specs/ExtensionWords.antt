@@ -6,7 +6,7 @@ use Rattle.std.specs.Str.{IsUtf8, bytes_eq}
 use Rattle.std.specs.Fmt.{decimal}
 use Rattle.ts_der.specs.Octets.{AreOctets}
 use Rattle.ts_der.specs.ObjectIdentifier.{is_oid, arcs}
-use Rattle.ts_der.specs.Dotted.{dotted}
+use Rattle.ts_der.specs.Dotted.{dotted_text}
 use Rattle.ts_script.specs.declared.keyword.NameKind.{NameKind}
 use Rattle.ts_script.specs.declared.keyword.NameKind.TheVariants.{Dns, Ip, Mail}
 use Rattle.ts_script.specs.declared.keyword.Keyword.{Keyword}
@@ -18,7 +18,8 @@ use Rattle.ts_script.specs.declared.keyword.Keyword.TheVariants.{RequireExplicit
 use Rattle.ts_script.specs.declared.keyword.Keyword.TheVariants.{InhibitPolicyMapping, KeyPurpose}
 use Rattle.ts_script.specs.declared.keyword.Keyword.TheVariants.{InhibitAnyPolicy, Critical}
 use Rattle.ts_script.specs.Pieces.{pieces_of}
-use Rattle.ts_script.specs.Words.{IsNumber, IsHex, first_of}
+use Rattle.ts_literal.specs.Literals.{IsNumber}
+use Rattle.ts_script.specs.Words.{IsHex, first_of}
 use Rattle.ts_script.specs.Parts.{Part, PartName, dns_name, ip_address, mail_box, usage_bit}
 use Rattle.ts_script.specs.Parts.{alt_name, authority, permitted, excluded, crl_point, policy}
 use Rattle.ts_script.specs.Parts.{mapped_policy, explicit_policy, no_mapping, purpose}
@@ -59,7 +60,7 @@ pub record IsText (value : List ℕ) (text : List ℕ) : Type 0 where
 
 -- the dotted form of an object identifier, of these contents octets (X.690 8.19)
 pub record IsDotted (value : List ℕ) (content : List ℕ) : Type 0 where
-  pub written : value ≡ dotted (arcs content)
+  pub written : value ≡ dotted_text (arcs content)
   pub form : is_oid content ≡ true
   pub octets : AreOctets content
 

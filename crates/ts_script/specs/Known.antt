@@ -27,9 +27,9 @@ abbrev pub known_in : Symbols → List Entry
 known_in known = map entry_in known.things.entries
 
 -- what a name stands for, by its first entry
-abbrev pub named : List Entry → List ℕ → Option Thing
-named [] name = None
-named (e ∷ known) name = if bytes_eq name e.0 then Some e.1 else named known name
+abbrev pub thing_named : List Entry → List ℕ → Option Thing
+thing_named [] name = None
+thing_named (e ∷ known) name = if bytes_eq name e.0 then Some e.1 else thing_named known name
 
 -- the octets of a certificate
 abbrev pub certificate_in : Option Thing → Option (List ℕ)
@@ -39,4 +39,4 @@ certificate_in (Some (revocation_list octets)) = None
 
 -- those of the certificate that a name stands for
 abbrev pub certificate_named : List Entry → List ℕ → Option (List ℕ)
-certificate_named known name = certificate_in (named known name)
+certificate_named known name = certificate_in (thing_named known name)

@@ -2,11 +2,10 @@ pub mod Pieces
 pub mod Words
 pub mod Parts
 pub mod ExtensionWords
-pub mod OwnedParts
 pub mod CrlLineWords
-pub mod CrlParts
 pub mod Known
 pub mod Wrong
 pub mod CertLine
 pub mod CheckLine
 pub mod CrlLine
+pub mod inside

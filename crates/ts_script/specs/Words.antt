@@ -1,10 +1,9 @@
 -- The words of a line: what a name of a script, a number, octets and a distinguished name are
 -- written as.
-use Rattle.std.specs.Prelude.{◌≡◌, ◌≢◌, ℕ, ◌<◌, ◌^◌, true, List, [], ◌∷◌, ◌++◌, map, codes}
+use Rattle.std.specs.Prelude.{◌≡◌, ◌≢◌, ℕ, true, List, [], ◌∷◌, ◌++◌, map, codes}
 use Rattle.std.specs.List.{list_all}
 use Rattle.std.specs.Char.{is_ascii_alphanumeric}
 use Rattle.std.specs.Str.{IsUtf8}
-use Rattle.std.specs.Fmt.{decimal}
 use Rattle.hex.specs.Hex.{encode_lower, IsBytes}
 use Rattle.ts_make.specs.declared.description.AttributeType.{AttributeType}
 use Rattle.ts_make.specs.declared.description.AttributeType.TheVariants.{CommonName}
@@ -28,11 +27,6 @@ first_of (word ∷ words) = word
 -- one or more ASCII letters and digits
 abbrev pub IsName : List ℕ → Type 0
 IsName word = (word ≢ []) × (list_all is_ascii_alphanumeric word ≡ true)
-
--- a number below 2^32, in decimal without leading zeros
-pub record IsNumber (word : List ℕ) (number : ℕ) : Type 0 where
-  pub written : word ≡ decimal number
-  pub range : number < 2 ^ 32
 
 -- one or more octets, in lower-case hexadecimal digits
 pub record IsHex (word : List ℕ) (octets : List ℕ) : Type 0 where

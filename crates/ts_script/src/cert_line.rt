@@ -6,7 +6,7 @@ ghost use Rattle.std.specs.Fmt.{decimal};
 ghost use Rattle.ts_cert.specs.Reading.{certificate_of};
 ghost use Rattle.ts_script.specs.declared.script.LineFault.TheVariants.{Memory};
 ghost use Rattle.ts_script.specs.Words.{IsName};
-ghost use Rattle.ts_script.specs.Known.{known_in, named};
+ghost use Rattle.ts_script.specs.Known.{known_in, thing_named};
 ghost use Rattle.ts_script.specs.CertLine.{IsCertLine, IsMade, IsKept, RefusesWords, IsCertSaid};
 ghost use Rattle.ts_script.specs.CertLine.{RefusesCert};
 
@@ -14,8 +14,9 @@ use crate::cert_octets::CertOctets;
 use crate::extension_words::{extension_words, parts_in};
 use crate::script::LineFault;
 use crate::symbols::{Item, Symbols};
-use crate::words::{is_name, moment_of, number_of, octets_of, rdns_of, word_behind};
+use crate::words::{is_name, moment_of, octets_of, rdns_of, word_behind};
 use std::alloc::Global;
+use ts_literal::number_of_octets;
 use ts_make::{CertText, MakeFault, make_cert};
 
 /// The words of a `cert` line that say something.
@@ -70,10 +71,10 @@ impl<'a> CertWords<'a> {
         ensures made { IfOk result (λ octets. IsMade self.now octets.items) }
         ensures short { IfOk result (λ octets. length octets.items ≤ 65536) }
         ensures reads { IfOk result (λ octets. is_ok (certificate_of octets.items) ≡ true) }
-        ensures free { OnOk result (named (known_in known.now) self.now.name.now ≡ None) }
+        ensures free { OnOk result (thing_named (known_in known.now) self.now.name.now ≡ None) }
         ensures fault { IfErr result (RefusesWords (known_in known.now) self.now) }
     {
-        let serial = number_of(self.serial).ok_or(LineFault::Form)?;
+        let serial = number_of_octets(self.serial).ok_or(LineFault::Form)?;
         let from = moment_of(self.from).ok_or(LineFault::Form)?;
         let to = moment_of(self.to).ok_or(LineFault::Form)?;
         let issuer = rdns_of(alloc, self.issuer)?;

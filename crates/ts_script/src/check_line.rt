@@ -11,6 +11,7 @@ use crate::verdict_text::print_verdict;
 use crate::words::{SPACE, are_names, first_piece, is_name, moment_of, word_behind};
 use std::alloc::{AllocError, Global};
 use ts_cert::Cert;
+use ts_der::OidRef;
 use ts_path::{Anchor, Inputs, MAX_CHAIN, validate};
 use ts_revoke::Crls;
 use ts_sig::DigestCheck;
@@ -77,12 +78,12 @@ fn chain_of<'a>(
     Ok(chain)
 }
 
-/// The inputs of a line with these options, of which the policies are given as octets.
+/// The inputs of a line with these options, of which purpose and policies are borrowed.
 fn inputs_of<'x>(
     options: &Options,
     moment: Moment,
     purpose: Option<&'x [u8]>,
-    policies: &'x [&'x [u8]],
+    policies: &'x [OidRef<'x>],
 ) -> Inputs<'x> {
     Inputs {
         moment,
@@ -115,14 +116,14 @@ fn judge<'a>(
     judge_by(alloc, anchor, chain, options, purpose, &policies, moment)
 }
 
-/// The same with the purpose and the policies of the options as octets.
+/// The same with the purpose and the policies of the options, borrowed.
 fn judge_by<'a>(
     alloc: Global,
     anchor: &Anchor<'a>,
     chain: &[Cert<'a>],
     options: &Options,
     purpose: Option<&'a [u8]>,
-    policies: &'a [&'a [u8]],
+    policies: &'a [OidRef<'a>],
     moment: Moment,
 ) -> Result<String, AllocError>
     requires some { 1 ≤ length chain.now }

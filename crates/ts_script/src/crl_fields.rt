@@ -7,7 +7,7 @@ ghost use Rattle.ts_script.specs.Words.{RefusesWord};
 ghost use Rattle.ts_script.specs.declared.script.LineFault.TheVariants.{Form};
 ghost use Rattle.ts_script.specs.CrlLineWords.{Fields, Gather, entry_said, number_said, base_said};
 ghost use Rattle.ts_script.specs.CrlLineWords.{reasons_said, uri_said, critical_said};
-ghost use Rattle.ts_script.specs.CrlParts.{crl_part, crl_parts, fields_in};
+ghost use Rattle.ts_script.specs.inside.CrlParts.{crl_part, crl_parts, fields_in};
 
 use crate::crl_words::CrlWord;
 use crate::script::LineFault;

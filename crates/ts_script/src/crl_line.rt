@@ -7,7 +7,7 @@ ghost use Rattle.ts_crl.specs.Table.{crl_of};
 ghost use Rattle.ts_make.specs.CrlMaking.{IsTaken};
 ghost use Rattle.ts_script.specs.declared.script.LineFault.TheVariants.{Memory};
 ghost use Rattle.ts_script.specs.Words.{IsName};
-ghost use Rattle.ts_script.specs.Known.{known_in, named};
+ghost use Rattle.ts_script.specs.Known.{known_in, thing_named};
 ghost use Rattle.ts_script.specs.CrlLine.{IsCrlLine, IsCrlMade, IsCrlKept, RefusesCrlWords};
 ghost use Rattle.ts_script.specs.CrlLine.{IsCrlSaid, RefusesCrl};
 
@@ -61,7 +61,7 @@ impl<'a> CrlWords<'a> {
         ensures made { IfOk result (λ octets. IsCrlMade self.now octets.items) }
         ensures short { IfOk result (λ octets. length octets.items ≤ 4194304) }
         ensures reads { IfOk result (λ octets. IsTaken (crl_of octets.items)) }
-        ensures free { OnOk result (named (known_in known.now) self.now.name.now ≡ None) }
+        ensures free { OnOk result (thing_named (known_in known.now) self.now.name.now ≡ None) }
         ensures fault { IfErr result (RefusesCrlWords (known_in known.now) self.now) }
     {
         let this_update = moment_of(self.this_update).ok_or(LineFault::Form)?;

@@ -9,14 +9,15 @@ ghost use Rattle.ts_script.specs.Pieces.{pieces_behind};
 ghost use Rattle.ts_script.specs.Words.{RefusesWord};
 ghost use Rattle.ts_script.specs.CrlLineWords.{CrlPart, crl_keyword_text, IsReason, IsEntry};
 ghost use Rattle.ts_script.specs.CrlLineWords.{SaysCrl, IsCrlWord, AreCrlWords};
-ghost use Rattle.ts_script.specs.CrlParts.{crl_part, crl_parts};
+ghost use Rattle.ts_script.specs.inside.CrlParts.{crl_part, crl_parts};
 
 use crate::script::LineFault;
 use crate::values::{number_in, numbers_in, oid_in, text_in};
-use crate::words::{SPACE, first_piece, number_of};
+use crate::words::{SPACE, first_piece};
 use std::alloc::Global;
 use ts_der::Oid;
 use ts_ext::ReasonCode;
+use ts_literal::number_of_octets;
 use ts_make::EntryText;
 
 /// Stands between the serial number and the reason of an entry.
@@ -111,8 +112,8 @@ fn reason_of(value: &[u8]) -> Option<ReasonCode>
     ensures { MatchOption result ((reason : ReasonCode) → ¬ (IsReason value.now reason))
         (IsReason value.now) }
 {
-    match u8::try_from(number_of(value)?) {
-        Ok(number) => ReasonCode::numbered(number),
+    match u8::try_from(number_of_octets(value)?) {
+        Ok(number) => ReasonCode::of_number(number),
         // The number of a reason takes one octet.
         Err(_) => None,
     }
@@ -128,7 +129,7 @@ fn entry_of(value: &[u8]) -> Option<EntryText>
     if rest.is_some() {
         return None;
     }
-    let serial = number_of(serial)?;
+    let serial = number_of_octets(serial)?;
     let reason = reason_of(reason)?;
     Some(EntryText { serial, reason })
 }

@@ -10,7 +10,7 @@ ghost use Rattle.ts_script.specs.Words.{RefusesWord};
 ghost use Rattle.ts_script.specs.Parts.{Part, PartName, name_in, part_in, usage_bit};
 ghost use Rattle.ts_script.specs.ExtensionWords.{IsNameValue, SaysValue, SaysWith, IsWord};
 ghost use Rattle.ts_script.specs.ExtensionWords.{AreWords, StandsOnce, AreParts, once};
-ghost use Rattle.ts_script.specs.OwnedParts.{name_of, parts_of};
+ghost use Rattle.ts_script.specs.inside.OwnedParts.{name_of, parts_of};
 
 use crate::keyword::{Keyword, NameKind};
 use crate::script::LineFault;

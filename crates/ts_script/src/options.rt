@@ -4,9 +4,10 @@ ghost use Rattle.std.specs.Prelude.{◌↔◌, IsSome};
 
 use crate::script::LineFault;
 use crate::values::oid_in;
-use crate::words::{SPACE, first_piece, number_of};
+use crate::words::{SPACE, first_piece};
 use std::alloc::{AllocError, Global};
-use ts_der::Oid;
+use ts_der::{Oid, OidRef};
+use ts_literal::number_of_octets;
 
 /// The most policies that a user accepts, as a question has it.
 pub const MAX_POLICIES: usize = 32;
@@ -80,7 +81,7 @@ impl Options {
 
     /// Sets k. A second one, and what is no number, are refused.
     fn take_k(&mut self, value: &[u8]) -> Result<(), LineFault> {
-        let k = number_of(value).ok_or(LineFault::Form)?;
+        let k = number_of_octets(value).ok_or(LineFault::Form)?;
         if self.k.is_some() {
             return Err(LineFault::Form);
         }
@@ -121,13 +122,13 @@ impl Options {
         }
     }
 
-    /// The contents octets of the policies.
-    pub fn policies(&self, alloc: Global) -> Result<Vec<&[u8]>, AllocError> {
-        let mut contents = Vec::new(alloc);
+    /// The policies, borrowed.
+    pub fn policies(&self, alloc: Global) -> Result<Vec<OidRef<'_>>, AllocError> {
+        let mut policies = Vec::new(alloc);
         for policy in self.policies.iter() {
-            contents.push(policy.as_ref().content)?;
+            policies.push(policy.as_ref())?;
         }
-        Ok(contents)
+        Ok(policies)
     }
 }
 

@@ -1,7 +1,8 @@
 //! What a script has named so far.
 
 ghost use Rattle.std.specs.Prelude.{◌≡◌, ◌++◌, [], ◌∷◌, None, OnOk, OnErr, option_map};
-ghost use Rattle.ts_script.specs.Known.{known_in, entry_in, thing_in, named, certificate_named};
+ghost use Rattle.ts_script.specs.Known.{known_in, entry_in, thing_in, thing_named};
+ghost use Rattle.ts_script.specs.Known.{certificate_named};
 
 use crate::cert_octets::CertOctets;
 use indexmap::IndexMap;
@@ -36,7 +37,7 @@ impl Symbols {
     /// What is known by this name.
     pub fn find(&self, name: &[u8]) -> Option<&Item>
         ensures { option_map (λ kept. thing_in kept.now) result
-            ≡ named (known_in self.now) name.now }
+            ≡ thing_named (known_in self.now) name.now }
     {
         self.things.get(name)
     }
@@ -81,7 +82,7 @@ impl Symbols {
     /// Memory ran out.
     pub fn keep(&mut self, name: Vec<u8>, kept: Item) -> Result<(), AllocFailed<(Vec<u8>, Item)>>
         // A name by which nothing was known is last.
-        ensures kept { named (known_in self.old) name.items ≡ None
+        ensures kept { thing_named (known_in self.old) name.items ≡ None
             → OnOk result (known_in self.new ≡ known_in self.old ++ entry_in (name, kept) ∷ []) }
         ensures unchanged { OnErr result (known_in self.new ≡ known_in self.old) }
     {

@@ -3,13 +3,15 @@
 ghost use Rattle.std.specs.Prelude.{◌≡◌, ℕ, List, IfOk, IfErr};
 ghost use Rattle.ts_der.specs.Octets.{AreOctets};
 ghost use Rattle.ts_script.specs.declared.script.LineFault.TheVariants.{Form};
-ghost use Rattle.ts_script.specs.Words.{IsNumber, RefusesWord};
+ghost use Rattle.ts_literal.specs.Literals.{IsNumber};
+ghost use Rattle.ts_script.specs.Words.{RefusesWord};
 ghost use Rattle.ts_script.specs.ExtensionWords.{IsText, IsDotted, IsNumbers};
 
 use crate::script::LineFault;
-use crate::words::{first_piece, number_of};
+use crate::words::first_piece;
 use std::alloc::Global;
 use ts_der::Oid;
+use ts_literal::number_of_octets;
 
 /// Stands between two numbers.
 const COMMA: u8 = b',';
@@ -20,7 +22,7 @@ pub fn number_in(value: &[u8]) -> Result<u32, LineFault>
     ensures fault { IfErr result (RefusesWord ((number : ℕ) → ¬ (IsNumber value.now number))) }
     ensures form { IfErr result (λ fault. fault ≡ Form) }
 {
-    number_of(value).ok_or(LineFault::Form)
+    number_of_octets(value).ok_or(LineFault::Form)
 }
 
 /// The text that a value is.
@@ -42,7 +44,7 @@ pub fn numbers_in(alloc: Global, value: &[u8]) -> Result<Vec<u32>, LineFault>
     let mut rest = Some(value);
     while let Some(left) = rest {
         let (piece, behind) = first_piece(left, COMMA);
-        let Some(number) = number_of(piece) else {
+        let Some(number) = number_of_octets(piece) else {
             return Err(LineFault::Form);
         };
         numbers.push(number)?;

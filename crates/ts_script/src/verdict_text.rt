@@ -8,24 +8,21 @@ use ts_der::OidRef;
 use ts_path::Verdict;
 
 /// The policies that are accepted, in dotted form, or `-` where there is none.
-fn print_policies(alloc: Global, policies: &[&[u8]]) -> Result<String, AllocError> {
+fn print_policies(alloc: Global, policies: &[OidRef<'_>]) -> Result<String, AllocError> {
     let mut text = String::new(alloc);
     if policies.is_empty() {
         text.push_str(" -")?;
     }
     for policy in policies {
         text.push_str(" ")?;
-        text.push_str(dotted(alloc, policy)?.as_str())?;
+        text.push_str(dotted_form(alloc, *policy)?.as_str())?;
     }
     Ok(text)
 }
 
-/// The dotted form of the object identifier that has these contents octets.
-fn dotted(alloc: Global, content: &[u8]) -> Result<String, AllocError> {
-    match OidRef::from_content(content) {
-        Some(oid) => format!(in alloc; "{oid}"),
-        None => Ok(String::new(alloc)),
-    }
+/// The dotted form of an object identifier.
+fn dotted_form(alloc: Global, oid: OidRef<'_>) -> Result<String, AllocError> {
+    format!(in alloc; "{oid}")
 }
 
 /// The words of a verdict.

@@ -6,7 +6,7 @@ ghost use Rattle.std.specs.List.{AllByRecursion};
 ghost use Rattle.ts_make.specs.declared.description.RdnText.{RdnText};
 ghost use Rattle.ts_time.specs.Text.{IsGeneral};
 ghost use Rattle.ts_script.specs.Pieces.{pieces_of, pieces_behind};
-ghost use Rattle.ts_script.specs.Words.{IsName, IsNumber, IsHex, IsRdn, IsDn, RefusesWord};
+ghost use Rattle.ts_script.specs.Words.{IsName, IsHex, IsRdn, IsDn, RefusesWord};
 
 use crate::script::LineFault;
 use std::alloc::Global;
@@ -77,15 +77,6 @@ pub fn are_names(words: Option<&[u8]>) -> bool
         rest = behind;
     }
     true
-}
-
-/// The number that a word writes in decimal, without leading zeros.
-pub fn number_of(word: &[u8]) -> Option<u32>
-    ensures { MatchOption result ((n : ℕ) → ¬ (IsNumber word.now n)) (IsNumber word.now) }
-{
-    let number: u32 = str::from_utf8(word).ok()?.parse().ok()?;
-    let mut encoding = itoa::Buffer::new();
-    (encoding.format(number).as_bytes() == word).then_some(number)
 }
 
 /// The moment that a word names as a GeneralizedTime.

@@ -1,10 +1,12 @@
 -- The chains made level by level are all candidates, in order.
-use Rattle.std.proofs.Common.{◌≡◌, ℕ, zero, suc, ◌+◌, ◌-◌, ◌<◌, ◌≤◌, ◌⊎◌, inl, inr, Bool, true, false, cond, not, ◌==◌, IsTrue, List, [], ◌∷◌, ◌++◌, map, filter, flat_map, length, refl, sym, ap, ◌∙◌, subst, arith, true≢false}
+use Rattle.std.proofs.Common.{◌≡◌, ℕ, zero, suc, ◌+◌, ◌-◌, ◌<◌, ◌≤◌, inl, inr, Bool, true, false}
+use Rattle.std.proofs.Common.{cond, not, ◌==◌, List, [], ◌∷◌, ◌++◌, map, filter, flat_map, length}
+use Rattle.std.proofs.Common.{refl, sym, ap, ◌∙◌, subst, arith, true≢false}
 use Rattle.std.specs.List.{list_any, AllByRecursion, range_with_len}
 use Rattle.std.proofs.Math.Nat.{eq-or-lt_of_le}
 use Rattle.ts_policy.specs.Labels.{In}
-use Rattle.ts_search.specs.Candidates.{AreLinked, AreDistinct, EndsAtLeaf, IsCandidate, IsBelow, Precedes, AreInOrder, AreCandidates}
-use Rattle.ts_search.specs.Levels.{row_at, top_row, is_new, longer, level, chains, issuers, AreRows}
+use Rattle.ts_search.specs.Candidates.{AreLinked, AreDistinct, EndsAtLeaf, IsCandidate, IsLesser, IsEarlier, AreInOrder, AreCandidates}
+use Rattle.ts_search.specs.inside.Levels.{row_at, top_row, is_new, longer, level, chains, AreRows}
 use Rattle.ts_policy.proofs.Lists.{In-append_left, In-append_right, In-append_cases, In-map, In-from_map, In-filter, In-from_filter, In-flat_map, In-from_flat_map}
 
 -- ---- lists
@@ -45,7 +47,10 @@ ordered_filter {X} R p (x ∷ xs) o =
       | false ↦ ordered_filter R p xs o.1
     ]
 
-ordered_flat_map : {X Y : Type 0} (R : X → X → Type 0) (S : Y → Y → Type 0) (f : X → List Y) (xs : List X) → ((x : X) → In x xs → AreOrdered S (f x)) → ((x z : X) (y w : Y) → In x xs → In z xs → R x z → In y (f x) → In w (f z) → S y w) → AreOrdered R xs → AreOrdered S (flat_map f xs)
+ordered_flat_map : {X Y : Type 0} (R : X → X → Type 0) (S : Y → Y → Type 0) (f : X → List Y)
+    (xs : List X) → ((x : X) → In x xs → AreOrdered S (f x))
+    → ((x z : X) (y w : Y) → In x xs → In z xs → R x z → In y (f x) → In w (f z) → S y w)
+    → AreOrdered R xs → AreOrdered S (flat_map f xs)
 ordered_flat_map R S f [] each h o = tt
 ordered_flat_map R S f (x ∷ xs) each h o =
     ordered_append S (f x) (flat_map f xs) (each x (inl refl)) (ordered_flat_map R S f xs (λ a i. each a (inr i)) (λ a b y w i j. h a b y w (inr i) (inr j)) o.1)
@@ -154,37 +159,37 @@ module _ (issues : ℕ → ℕ → Bool) (count : ℕ) (rows : List (List ℕ)) 
       let P : List ℕ → Type 0 = λ r. AreOrdered (λ i j. i < j) r in
       subst P (sym (are_rows i h.within.0)) (ordered_filter (λ i j. i < j) (λ k. issues k i) (range_with_len 0 count) (range_ordered 0 count))
 
-  longer_ordered : (b : List ℕ) → IsChain issues count b → AreOrdered IsBelow (longer rows b)
+  longer_ordered : (b : List ℕ) → IsChain issues count b → AreOrdered IsLesser (longer rows b)
   unfolding longer
   longer_ordered b h =
-      ordered_map (λ i j. i < j) IsBelow (λ i. i ∷ b) (filter (is_new b) (top_row rows b)) (λ i j l. inr (refl, l))
+      ordered_map (λ i j. i < j) IsLesser (λ i. i ∷ b) (filter (is_new b) (top_row rows b)) (λ i j l. inr (refl, l))
       (ordered_filter (λ i j. i < j) (is_new b) (top_row rows b) (rows_ordered b h))
 
-  above_below : (b d c e : List ℕ) → IsBelow b d → In c (longer rows b) → In e (longer rows d) → IsBelow c e
+  above_below : (b d c e : List ℕ) → IsLesser b d → In c (longer rows b) → In e (longer rows d) → IsLesser c e
   above_below b d c e l i j =
       let m = from_longer b c i in
       let w = from_longer d e j in
-      let P : List ℕ → Type 0 = λ x. IsBelow x e in
-      let Q : List ℕ → Type 0 = λ y. IsBelow (m.0 ∷ b) y in
+      let P : List ℕ → Type 0 = λ x. IsLesser x e in
+      let Q : List ℕ → Type 0 = λ y. IsLesser (m.0 ∷ b) y in
       subst P (sym m.1) (subst Q (sym w.1) (inl l))
 
-  level_ordered : (n : ℕ) → AreOrdered IsBelow (level rows n)
+  level_ordered : (n : ℕ) → AreOrdered IsLesser (level rows n)
   unfolding level
   level_ordered zero = (tt, tt)
-  level_ordered (suc n) = ordered_flat_map IsBelow IsBelow (longer rows) (level rows n) (λ b i. longer_ordered b (sound n b i).0) (λ b d c e i j l k m. above_below b d c e l k m) (level_ordered n)
+  level_ordered (suc n) = ordered_flat_map IsLesser IsLesser (longer rows) (level rows n) (λ b i. longer_ordered b (sound n b i).0) (λ b d c e i j l k m. above_below b d c e l k m) (level_ordered n)
 
   -- chains of one length in order
-  of_one_length : (n : ℕ) (cs : List (List ℕ)) → ((c : List ℕ) → In c cs → length c ≡ n) → AreOrdered IsBelow cs → AreInOrder cs
+  of_one_length : (n : ℕ) (cs : List (List ℕ)) → ((c : List ℕ) → In c cs → length c ≡ n) → AreOrdered IsLesser cs → AreInOrder cs
   of_one_length n [] h o = tt
   of_one_length n (c ∷ cs) h o = (
-    all_of (Precedes c) cs (λ d i. inr (h c (inl refl) ∙ sym (h d (inr i)), in_all (IsBelow c) cs d o.0 i)),
+    all_of (IsEarlier c) cs (λ d i. inr (h c (inl refl) ∙ sym (h d (inr i)), in_all (IsLesser c) cs d o.0 i)),
     of_one_length n cs (λ d i. h d (inr i)) o.1,
   )
 
-  in_order_append : (cs ds : List (List ℕ)) → AreInOrder cs → AreInOrder ds → ((c d : List ℕ) → In c cs → In d ds → Precedes c d) → AreInOrder (cs ++ ds)
+  in_order_append : (cs ds : List (List ℕ)) → AreInOrder cs → AreInOrder ds → ((c d : List ℕ) → In c cs → In d ds → IsEarlier c d) → AreInOrder (cs ++ ds)
   in_order_append [] ds hc hd h = hd
   in_order_append (c ∷ cs) ds hc hd h = (
-    all_of (Precedes c) (cs ++ ds) (λ d i. elim (In-append_cases d cs ds i) [ inl a ↦ in_all (Precedes c) cs d hc.0 a | inr b ↦ h c d (inl refl) b ]),
+    all_of (IsEarlier c) (cs ++ ds) (λ d i. elim (In-append_cases d cs ds i) [ inl a ↦ in_all (IsEarlier c) cs d hc.0 a | inr b ↦ h c d (inl refl) b ]),
     in_order_append cs ds hc.1 hd (λ a b i j. h a b (inr i) j),
   )
 

@@ -1,17 +1,20 @@
 -- The walk through the candidates by their length, against the answer over all of them.
-use Rattle.std.proofs.Common.{◌≡◌, ℕ, zero, suc, ◌+◌, ◌-◌, ◌<◌, ◌≤◌, ◌⊎◌, inl, inr, Bool, List, [], ◌∷◌, ◌++◌, map, flat_map, length, take, Option, Some, None, unwrap_or, slice_get, refl, sym, ap, ◌∙◌, subst, arith, append_assoc, length-append}
+use Rattle.std.proofs.Common.{◌≡◌, ℕ, zero, suc, ◌+◌, ◌-◌, ◌<◌, ◌≤◌, inl, inr, Bool, List, [], ◌∷◌}
+use Rattle.std.proofs.Common.{◌++◌, map, flat_map, length, take, Option, Some, None, unwrap_or}
+use Rattle.std.proofs.Common.{slice_get, refl, sym, ap, ◌∙◌, subst, arith, append_assoc}
+use Rattle.std.proofs.Common.{length-append}
 use Rattle.std.specs.List.{AllByRecursion}
 use Rattle.std.proofs.lemmas.List.{append-nil, take-append-le}
 use Rattle.std.proofs.Math.Nat.{eq-or-lt_of_le}
 use Rattle.ts_policy.specs.Labels.{Label, In}
 use Rattle.ts_cert.specs.Certificate.{Certificate}
 use Rattle.ts_search.specs.Candidates.{issues, IsCandidate, AreCandidates}
-use Rattle.ts_search.specs.Levels.{level, chains, longer, AreRows}
-use Rattle.ts_search.specs.Search.{Search, with_certificate, certificates_at, NoneUnder, NoneOf, IsFirst, Answers, most}
-use Rattle.ts_search.specs.Search.{IsAnswer}
-use Rattle.ts_search.specs.Trial.{IsTriable, AreTriable, FirstOf}
-use Rattle.ts_search.specs.declared.answer.Answer.{Answer}
-use Rattle.ts_search.specs.declared.answer.Answer.TheVariants.{Found, NoPath, SearchLimit}
+use Rattle.ts_search.specs.inside.Levels.{level, chains, longer, AreRows}
+use Rattle.ts_search.specs.Search.{Search, with_certificate, certificates_at, NoneOf, IsFirstChain, Answers, most}
+use Rattle.ts_search.specs.Search.{IsSearchAnswer}
+use Rattle.ts_search.specs.inside.Trial.{IsTriable, AreTriable, FirstOf}
+use Rattle.ts_search.specs.declared.answer.SearchAnswer.{SearchAnswer}
+use Rattle.ts_search.specs.declared.answer.SearchAnswer.TheVariants.{Found, NoPath, SearchLimit}
 use Rattle.ts_search.proofs.Candidates.{are_candidates, in_all, all_of}
 use Rattle.ts_search.proofs.Takes.{take_all, take_short, take_front, take_behind, length_take_le}
 use Rattle.ts_policy.proofs.Lists.{In-append_left, In-append_right}
@@ -71,11 +74,15 @@ take_two zero (x ∷ xs) ys = ([], refl)
 take_two (suc n) (x ∷ xs) ys = let r = take_two n xs ys in (r.0, ap (λ t. x ∷ t) r.1)
 
 -- what comes first among some comes first among all, where nothing before them is valid
-pub first_among : (s : Search) (number : ℕ) (chain : List ℕ) (policies : List Label) (before tried after all : List (List ℕ)) → NoneOf s before → all ≡ before ++ (tried ++ after) → IsFirst s tried number chain policies → IsFirst s all number chain policies
+pub first_among : (s : Search) (number : ℕ) (chain : List ℕ) (policies : List Label)
+    (before tried after all : List (List ℕ)) → NoneOf s before → all ≡ before ++ (tried ++ after)
+    → IsFirstChain s tried number chain policies → IsFirstChain s all number chain policies
 first_among s number chain policies before tried after all none e h = record {
   before = before ++ h.before;
   after = h.after ++ after;
-  tried_are = e ∙ (ap (λ t. before ++ (t ++ after)) h.tried_are ∙ (ap (λ t. before ++ t) (append_assoc h.before (chain ∷ h.after) after) ∙ sym (append_assoc before h.before (chain ∷ (h.after ++ after)))));
+  tried_are = e ∙ (ap (λ t. before ++ (t ++ after)) h.tried_are
+      ∙ (ap (λ t. before ++ t) (append_assoc h.before (chain ∷ h.after) after)
+      ∙ sym (append_assoc before h.before (chain ∷ (h.after ++ after)))));
   none_before = all_append _ before h.before none h.none_before;
   under = h.under;
 }
@@ -106,17 +113,26 @@ module _ (s : Search) (rows : List (List ℕ)) (some : 0 < length s.certificates
       let r = take_two left (level rows n) w.0 in
       (r.0, ap (take most) w.1 ∙ (take_behind left most (chains rows n) (level rows n ++ w.0) (omega (arith, e)) ∙ ap (λ t. chains rows n ++ t) r.1))
 
-  pub found : (n left number : ℕ) (chain : List ℕ) (policies : List Label) → n < 10 → left + length (chains rows n) ≡ 4096 → NoneOf s (chains rows n) → IsFirst s (take left (level rows n)) number chain policies → IsFirst s (take most (chains rows 10)) number chain policies
+  pub found : (n left number : ℕ) (chain : List ℕ) (policies : List Label) → n < 10
+      → left + length (chains rows n) ≡ 4096 → NoneOf s (chains rows n)
+      → IsFirstChain s (take left (level rows n)) number chain policies
+      → IsFirstChain s (take most (chains rows 10)) number chain policies
   found n left number chain policies h e none f =
       let r = tried_all n left h e in
       first_among s number chain policies (chains rows n) (take left (level rows n)) r.0 (take most (chains rows 10)) none r.1 f
 
-  pub limit : (n left : ℕ) → n < 10 → left + length (chains rows n) ≡ 4096 → NoneOf s (chains rows n) → left < length (level rows n) → NoneOf s (take left (level rows n)) → (most < length (chains rows 10)) × NoneOf s (take most (chains rows 10))
+  pub limit : (n left : ℕ) → n < 10 → left + length (chains rows n) ≡ 4096
+      → NoneOf s (chains rows n) → left < length (level rows n)
+      → NoneOf s (take left (level rows n)) → (most < length (chains rows 10))
+      × NoneOf s (take most (chains rows 10))
   limit n left h e none l front =
       let w = split rows n 10 h in
       let P : List (List ℕ) → Type 0 = λ cs. NoneOf s cs in
       let whole = ap length w.1 ∙ (length-append (chains rows n) (level rows n ++ w.0) ∙ ap (λ k. length (chains rows n) + k) (length-append (level rows n) w.0)) in
-      let tried = ap (take most) w.1 ∙ (take_behind left most (chains rows n) (level rows n ++ w.0) (omega (arith, e)) ∙ ap (λ t. chains rows n ++ t) (take-append-le left (level rows n) w.0 (omega (arith, l)))) in
+      let tried = ap (take most) w.1
+      ∙ (take_behind left most (chains rows n) (level rows n ++ w.0) (omega (arith, e))
+      ∙ ap (λ t. chains rows n ++ t)
+      (take-append-le left (level rows n) w.0 (omega (arith, l)))) in
       (omega (arith, whole, e, l), subst P (sym tried) (all_append _ (chains rows n) (take left (level rows n)) none front))
 
   -- the next level
@@ -147,10 +163,10 @@ module _ (s : Search) (rows : List (List ℕ)) (some : 0 < length s.certificates
 
   -- ---- the answers
 
-  answer_of : (answer : Answer) → Answers s (chains rows 10) answer → IsAnswer s answer
+  answer_of : (answer : SearchAnswer) → Answers s (chains rows 10) answer → IsSearchAnswer s answer
   answer_of answer h = record { candidates = chains rows 10; are_candidates = candidates; answers = h }
 
-  pub end_answer : (n left : ℕ) → n ≡ 10 → left + length (chains rows n) ≡ 4096 → NoneOf s (chains rows n) → IsAnswer s NoPath
+  pub end_answer : (n left : ℕ) → n ≡ 10 → left + length (chains rows n) ≡ 4096 → NoneOf s (chains rows n) → IsSearchAnswer s NoPath
   end_answer n left e l none =
       let P : ℕ → Type 0 = λ k. left + length (chains rows k) ≡ 4096 in
       let Q : ℕ → Type 0 = λ k. NoneOf s (chains rows k) in
@@ -169,22 +185,30 @@ module _ (s : Search) (rows : List (List ℕ)) (some : 0 < length s.certificates
   pub whole_triable : (n left : ℕ) (cs : List (List ℕ)) → n < 10 → cs ≡ take (left + 1) (level rows n) → length cs ≤ left → AreTriable s.certificates cs
   whole_triable n left cs h e l = subst (AreTriable s.certificates) (sym (whole n left cs e l)) (level_triable n h)
 
-  pub limit_answer : (n left : ℕ) (cs tried : List (List ℕ)) (found_one : Option Answer) → n < 10 → cs ≡ take (left + 1) (level rows n) → left + length (chains rows n) ≡ 4096 → NoneOf s (chains rows n) → left < length cs → tried ≡ take left cs → FirstOf s tried found_one → IsAnswer s (unwrap_or found_one SearchLimit)
+  pub limit_answer : (n left : ℕ) (cs tried : List (List ℕ)) (found_one : Option SearchAnswer)
+      → n < 10 → cs ≡ take (left + 1) (level rows n) → left + length (chains rows n) ≡ 4096
+      → NoneOf s (chains rows n) → left < length cs → tried ≡ take left cs
+      → FirstOf s tried found_one → IsSearchAnswer s (unwrap_or found_one SearchLimit)
   limit_answer n left cs tried None h e l none more t f =
       let k = ap length e in
       let m = length_take_le (left + 1) (level rows n) in
       answer_of SearchLimit (limit n left h l none (omega (arith, k, m, more)) (subst (NoneOf s) (t ∙ cut n left cs e) f))
   limit_answer n left cs tried (Some (Found number chain policies)) h e l none more t f =
-      let P : List (List ℕ) → Type 0 = λ ts. IsFirst s ts number chain.items (map (λ p. p.now) policies.items) in
-      answer_of (Found number chain policies) (found n left number chain.items (map (λ p. p.now) policies.items) h l none (subst P (t ∙ cut n left cs e) f))
+      let P : List (List ℕ) → Type 0 = λ ts. IsFirstChain s ts number chain.items (map (λ p. p.content.now) policies.items) in
+      answer_of (Found number chain policies) (found n left number chain.items (map (λ p. p.content.now) policies.items) h l none (subst P (t ∙ cut n left cs e) f))
   limit_answer n left cs tried (Some NoPath) h e l none more t f = absurd f
   limit_answer n left cs tried (Some SearchLimit) h e l none more t f = absurd f
 
-  pub found_answer : (n left : ℕ) (cs : List (List ℕ)) (answer : Answer) → n < 10 → cs ≡ take (left + 1) (level rows n) → left + length (chains rows n) ≡ 4096 → NoneOf s (chains rows n) → length cs ≤ left → FirstOf s cs (Some answer) → IsAnswer s answer
+  pub found_answer : (n left : ℕ) (cs : List (List ℕ)) (answer : SearchAnswer) → n < 10
+      → cs ≡ take (left + 1) (level rows n) → left + length (chains rows n) ≡ 4096
+      → NoneOf s (chains rows n) → length cs ≤ left → FirstOf s cs (Some answer)
+      → IsSearchAnswer s answer
   found_answer n left cs (Found number chain policies) h e l none few f =
-      let P : List (List ℕ) → Type 0 = λ ts. IsFirst s ts number chain.items (map (λ p. p.now) policies.items) in
+      let P : List (List ℕ) → Type 0 = λ ts. IsFirstChain s ts number chain.items (map (λ p. p.content.now) policies.items) in
       let w = whole n left cs e few in
       let k = ap length w in
-      answer_of (Found number chain policies) (found n left number chain.items (map (λ p. p.now) policies.items) h l none (subst P (w ∙ sym (take_all left (level rows n) (omega (arith, k, few)))) f))
+      answer_of (Found number chain policies)
+      (found n left number chain.items (map (λ p. p.content.now) policies.items) h l none
+      (subst P (w ∙ sym (take_all left (level rows n) (omega (arith, k, few)))) f))
   found_answer n left cs NoPath h e l none few f = absurd f
   found_answer n left cs SearchLimit h e l none few f = absurd f

@@ -1,5 +1,5 @@
 -- The rows of issuers.
-use Rattle.std.proofs.Common.{◌≡◌, ℕ, zero, suc, ◌+◌, ◌<◌, Bool, true, false, cond, List, [], ◌∷◌, ◌++◌, map, filter, length, get_or, Option, Some, None, slice_get, option_map, refl, sym, ap, ◌∙◌, arith}
+use Rattle.std.proofs.Common.{◌≡◌, ℕ, zero, suc, ◌+◌, ◌<◌, Bool, true, false, cond, List, [], ◌∷◌, ◌++◌, map, filter, length, get_or, Some, slice_get, option_map, refl, sym, ap, ◌∙◌, arith}
 use Rattle.std.specs.List.{range_with_len}
 use Rattle.std.proofs.lemmas.List.Elements.{filter-append}
 use Rattle.std.proofs.lemmas.Option.{slice_get-map}
@@ -8,13 +8,15 @@ use Rattle.std.proofs.lemmas.List.FromFn.{map-range_with_len_more}
 use Rattle.ts_name.specs.Sameness.{is_same_name}
 use Rattle.ts_cert.specs.declared.certificate.Cert.{Cert}
 use Rattle.ts_cert.specs.CertView.{cert_in}
-use Rattle.ts_cert.specs.Certificate.{Certificate}
-use Rattle.ts_search.specs.Candidates.{issues, has_issuer}
-use Rattle.ts_search.specs.Levels.{row_at, issuers, AreRows}
+use Rattle.ts_search.specs.Candidates.{issues, is_issued_by}
+use Rattle.ts_search.specs.inside.Levels.{row_at, issuers, AreRows}
 
 pub range_more : (a n : ℕ) → range_with_len a (n + 1) ≡ range_with_len a n ++ (a + n) ∷ []
 range_more a zero = ap (λ k. k ∷ []) (let e : a ≡ a + 0 = omega arith in e)
-range_more a (suc n) = ap (range_with_len a) (let e : suc n + 1 ≡ suc (n + 1) = omega arith in e) ∙ ap (λ t. a ∷ t) (range_more (a + 1) n ∙ ap (λ k. range_with_len (a + 1) n ++ k ∷ []) (let e : (a + 1) + n ≡ a + suc n = omega arith in e))
+range_more a (suc n) = ap (range_with_len a) (let e : suc n + 1 ≡ suc (n + 1) = omega arith in e)
+    ∙ ap (λ t. a ∷ t) (range_more (a + 1) n
+    ∙ ap (λ k. range_with_len (a + 1) n ++ k ∷ [])
+    (let e : (a + 1) + n ≡ a + suc n = omega arith in e))
 
 -- one more place
 pub filter_more : (p : ℕ → Bool) (i : ℕ) → filter p (range_with_len 0 (i + 1)) ≡ filter p (range_with_len 0 i) ++ cond (p i) (i ∷ []) []
@@ -30,11 +32,14 @@ pub rows_made : (f : ℕ → ℕ → Bool) (count : ℕ) (rows : List (List ℕ)
 rows_made f count rows e i h = ap (λ r. row_at r i) e ∙ (row_of (issuers f count) 0 count i h ∙ ap (issuers f count) (let e : 0 + i ≡ i = omega arith in e))
 
 -- the test of two places
-pub issues_is : (certificates : List Cert) (i j : ℕ) (above cert : Cert) → slice_get certificates i ≡ Some above → slice_get certificates j ≡ Some cert → issues (map cert_in certificates) i j ≡ is_same_name (cert_in cert).tbsCertificate.issuer (cert_in above).tbsCertificate.subject
+pub issues_is : (certificates : List Cert) (i j : ℕ) (above cert : Cert)
+    → slice_get certificates i ≡ Some above → slice_get certificates j ≡ Some cert
+    → issues (map cert_in certificates) i j ≡ is_same_name (cert_in cert).tbsCertificate.issuer
+    (cert_in above).tbsCertificate.subject
 unfolding issues
 issues_is certificates i j above cert a b =
-    ap (λ o. has_issuer o (slice_get (map cert_in certificates) i)) (slice_get-map cert_in certificates j ∙ ap (option_map cert_in) b)
-    ∙ ap (λ o. has_issuer (Some (cert_in cert)) o) (slice_get-map cert_in certificates i ∙ ap (option_map cert_in) a)
+    ap (λ o. is_issued_by o (slice_get (map cert_in certificates) i)) (slice_get-map cert_in certificates j ∙ ap (option_map cert_in) b)
+    ∙ ap (λ o. is_issued_by (Some (cert_in cert)) o) (slice_get-map cert_in certificates i ∙ ap (option_map cert_in) a)
 
 some_at : {X : Type 0} (xs : List X) (i : ℕ) (x : X) → i < length xs → x ≡ get_or xs i x → slice_get xs i ≡ Some x
 some_at [] i x h e = absurd (omega (arith, h))
@@ -42,7 +47,9 @@ some_at (y ∷ xs) zero x h e = ap Some (sym e)
 some_at (y ∷ xs) (suc i) x h e = some_at xs i x (omega (arith, h)) e
 
 -- the test of the certificates at two places
-pub test_is : (certificates : List Cert) (i j : ℕ) (above cert : Cert) (b : Bool) → i < length certificates → j < length certificates → above ≡ get_or certificates i above → cert ≡ get_or certificates j cert
+pub test_is : (certificates : List Cert) (i j : ℕ) (above cert : Cert) (b : Bool)
+    → i < length certificates → j < length certificates → above ≡ get_or certificates i above
+    → cert ≡ get_or certificates j cert
     → b ≡ is_same_name (cert_in cert).tbsCertificate.issuer (cert_in above).tbsCertificate.subject → issues (map cert_in certificates) i j ≡ b
 test_is certificates i j above cert b hi hj ei ej e = issues_is certificates i j above cert (some_at certificates i above hi ei) (some_at certificates j cert hj ej) ∙ sym e
 
@@ -57,6 +64,8 @@ map_more f [] x = refl
 map_more f (y ∷ xs) x = ap (λ t. f y ∷ t) (map_more f xs x)
 
 -- one more row
-pub one_more_row : {X : Type 0} (item : X → List ℕ) (f : ℕ → List ℕ) (n : ℕ) (rows more : List X) (row : X) → map item rows ≡ map f (range_with_len 0 n) → more ≡ rows ++ row ∷ [] → item row ≡ f n → map item more ≡ map f (range_with_len 0 (n + 1))
+pub one_more_row : {X : Type 0} (item : X → List ℕ) (f : ℕ → List ℕ) (n : ℕ) (rows more : List X)
+    (row : X) → map item rows ≡ map f (range_with_len 0 n) → more ≡ rows ++ row ∷ []
+    → item row ≡ f n → map item more ≡ map f (range_with_len 0 (n + 1))
 one_more_row item f n rows more row e m r =
     ap (map item) m ∙ (map_more item rows row ∙ (ap (λ t. t ++ item row ∷ []) e ∙ (ap (λ y. map f (range_with_len 0 n) ++ y ∷ []) r ∙ sym (map-range_with_len_more f 0 n n (omega arith)))))

@@ -1,5 +1,5 @@
 -- Lists that are made up to a limit.
-use Rattle.std.proofs.Common.{◌≡◌, ℕ, zero, suc, ◌+◌, ◌-◌, ◌<◌, ◌≤◌, Bool, true, false, cond, List, [], ◌∷◌, ◌++◌, map, filter, flat_map, length, take, drop, refl, sym, ap, ◌∙◌, arith, append_assoc}
+use Rattle.std.proofs.Common.{◌≡◌, ℕ, zero, suc, ◌+◌, ◌-◌, ◌≤◌, List, [], ◌∷◌, ◌++◌, map, length, take, drop, refl, sym, ap, ◌∙◌, arith, append_assoc}
 use Rattle.std.proofs.lemmas.List.{take-append-le, append-nil}
 
 pub take_all : {X : Type 0} (n : ℕ) (xs : List X) → length xs ≤ n → take n xs ≡ xs
@@ -37,9 +37,16 @@ length_map f [] = refl
 length_map f (x ∷ xs) = ap suc (length_map f xs)
 
 -- where nothing is left, what is made is all up to the limit
-pub made_whole : {X Y Z : Type 0} (limit : ℕ) (item : Y → X) (made : List Y) (more : List Z → List X) (rest : List Z) (n : ℕ) (all : List X) → length made ≤ limit → length rest ≤ n → more [] ≡ [] → take limit (map item made ++ more (drop n rest)) ≡ take limit all → map item made ≡ take limit all
+pub made_whole : {X Y Z : Type 0} (limit : ℕ) (item : Y → X) (made : List Y)
+    (more : List Z → List X) (rest : List Z) (n : ℕ) (all : List X) → length made ≤ limit
+    → length rest ≤ n → more [] ≡ []
+    → take limit (map item made ++ more (drop n rest)) ≡ take limit all
+    → map item made ≡ take limit all
 made_whole {X} limit item made more rest n all few over none e =
-    sym (ap (take limit) (ap (λ r. map item made ++ more r) (drop_none n rest over) ∙ ap (λ r. map item made ++ r) none ∙ append-nil (map item made)) ∙ take_all limit (map item made) (let m = length_map item made in omega (arith, few, m))) ∙ e
+    sym (ap (take limit) (ap (λ r. map item made ++ more r) (drop_none n rest over)
+    ∙ ap (λ r. map item made ++ r) none ∙ append-nil (map item made))
+    ∙ take_all limit (map item made) (let m = length_map item made in omega (arith, few, m)))
+    ∙ e
 
 -- what has fewer elements than it may have is whole
 pub take_short : {X : Type 0} (m n : ℕ) (xs : List X) → m ≡ n + 1 → length (take m xs) ≤ n → take m xs ≡ xs

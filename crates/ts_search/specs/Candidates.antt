@@ -2,20 +2,21 @@
 -- searched for, the leaf, has place 0 and is last; the certificates of the pool have the places 1,
 -- 2 and so on.
 use Rattle.std.specs.Prelude.{◌≡◌, ◌≤◌, ◌<◌, ◌⊎◌, ℕ, Bool, false, ◌==◌, List, [], ◌∷◌, length}
-use Rattle.std.specs.Prelude.{Option, Some, None, slice_get, IsTrue}
+use Rattle.std.specs.Prelude.{Option, Some, slice_get, IsTrue}
 use Rattle.std.specs.List.{list_any, AllByRecursion}
 use Rattle.ts_name.specs.Sameness.{is_same_name}
 use Rattle.ts_cert.specs.Certificate.{Certificate}
 use Rattle.ts_policy.specs.Labels.{In}
 
 -- the issuer of a certificate has the name of another's subject (RFC 5280 6.1.3 (a) (4))
-abbrev pub has_issuer : Option Certificate → Option Certificate → Bool
-has_issuer (Some c) (Some above) = is_same_name c.tbsCertificate.issuer above.tbsCertificate.subject
-has_issuer c above = false
+abbrev pub is_issued_by : Option Certificate → Option Certificate → Bool
+is_issued_by (Some c) (Some above) = is_same_name c.tbsCertificate.issuer
+    above.tbsCertificate.subject
+is_issued_by c above = false
 
 -- by places, the first certificate's subject is the second's issuer
 unfoldable pub issues : List Certificate → ℕ → ℕ → Bool
-issues certificates i j = has_issuer (slice_get certificates j) (slice_get certificates i)
+issues certificates i j = is_issued_by (slice_get certificates j) (slice_get certificates i)
 
 -- each certificate's issuer is the subject of the one before it
 abbrev pub AreLinked : (ℕ → ℕ → Bool) → List ℕ → Type 0
@@ -44,19 +45,19 @@ pub record IsCandidate (issues : ℕ → ℕ → Bool) (count : ℕ) (chain : Li
 
 -- of two chains of one length, the one whose place is the lesser where they first differ, from the
 -- leaf up
-abbrev pub IsBelow : List ℕ → List ℕ → Type 0
-IsBelow [] d = ⊥
-IsBelow (i ∷ c) [] = ⊥
-IsBelow (i ∷ c) (j ∷ d) = IsBelow c d ⊎ ((c ≡ d) × (i < j))
+abbrev pub IsLesser : List ℕ → List ℕ → Type 0
+IsLesser [] d = ⊥
+IsLesser (i ∷ c) [] = ⊥
+IsLesser (i ∷ c) (j ∷ d) = IsLesser c d ⊎ ((c ≡ d) × (i < j))
 
 -- shorter chains come first
-abbrev pub Precedes : List ℕ → List ℕ → Type 0
-Precedes c d = (length c < length d) ⊎ ((length c ≡ length d) × IsBelow c d)
+abbrev pub IsEarlier : List ℕ → List ℕ → Type 0
+IsEarlier c d = (length c < length d) ⊎ ((length c ≡ length d) × IsLesser c d)
 
 -- each precedes all after it
 abbrev pub AreInOrder : List (List ℕ) → Type 0
 AreInOrder [] = Unit {0}
-AreInOrder (c ∷ cs) = AllByRecursion (Precedes c) cs × AreInOrder cs
+AreInOrder (c ∷ cs) = AllByRecursion (IsEarlier c) cs × AreInOrder cs
 
 -- these are all candidates, in order
 pub record AreCandidates (issues : ℕ → ℕ → Bool) (count : ℕ) (cs : List (List ℕ)) : Type 0 where

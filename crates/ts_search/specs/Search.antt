@@ -5,31 +5,33 @@ use Rattle.std.specs.Prelude.{Some, None, slice_get}
 use Rattle.std.specs.List.{AllByRecursion}
 use Rattle.ts_cert.specs.Certificate.{Certificate}
 use Rattle.ts_policy.specs.Labels.{Label}
-use Rattle.ts_path.specs.Asked.{TrustAnchor, Asked}
-use Rattle.ts_path.specs.Chain.{Question}
-use Rattle.ts_path.specs.Conditions.{Condition}
-use Rattle.ts_path.specs.Verdict.{Holds, AreAccepted}
+use Rattle.ts_path.specs.Asked.{TrustAnchor, ValidationInputs}
+use Rattle.ts_path.specs.Chain.{ChainQuestion}
+use Rattle.ts_reason.specs.Conditions.{Condition}
+use Rattle.ts_path.specs.Verdict.{HoldsAt, AreAccepted}
 use Rattle.ts_search.specs.Candidates.{issues, AreCandidates}
-use Rattle.ts_search.specs.declared.answer.Answer.{Answer}
-use Rattle.ts_search.specs.declared.answer.Answer.TheVariants.{Found, NoPath, SearchLimit}
+use Rattle.ts_search.specs.declared.answer.SearchAnswer.{SearchAnswer}
+use Rattle.ts_search.specs.declared.answer.SearchAnswer.TheVariants.{Found, NoPath, SearchLimit}
 
 -- ---- a chain under anchors
 
-abbrev pub question : (TrustAnchor → Asked) → List Certificate → TrustAnchor → Question
+abbrev pub question : (TrustAnchor → ValidationInputs) → List Certificate → TrustAnchor
+    → ChainQuestion
 question asked chain anchor = record { asked = asked anchor; chain = chain }
 
 -- no condition fails (RFC 5280 6.1)
-abbrev pub IsValid : Question → Type 0
-IsValid q = (i : ℕ) (k : Condition) → Holds k q i
+abbrev pub IsValidChain : ChainQuestion → Type 0
+IsValidChain q = (i : ℕ) (k : Condition) → HoldsAt k q i
 
 -- under none of these anchors is the chain valid
-abbrev pub NoneUnder : (TrustAnchor → Asked) → List Certificate → List TrustAnchor → Type 0
+abbrev pub NoneUnder : (TrustAnchor → ValidationInputs) → List Certificate → List TrustAnchor
+    → Type 0
 NoneUnder asked chain anchors = AllByRecursion
-    (λ anchor. ¬ (IsValid (question asked chain anchor))) anchors
+    (λ anchor. ¬ (IsValidChain (question asked chain anchor))) anchors
 
 -- the anchor of this number, counted from 0, is the first under which the chain is valid, with
 -- these policies
-pub record IsFirstUnder (asked : TrustAnchor → Asked) (chain : List Certificate)
+pub record IsFirstUnder (asked : TrustAnchor → ValidationInputs) (chain : List Certificate)
     (anchors : List TrustAnchor) (number : ℕ) (policies : List Label) : Type 0 where
   pub earlier : List TrustAnchor
   pub anchor : TrustAnchor
@@ -37,7 +39,7 @@ pub record IsFirstUnder (asked : TrustAnchor → Asked) (chain : List Certificat
   pub anchors_are : anchors ≡ earlier ++ anchor ∷ later
   pub number_is : number ≡ length earlier
   pub none_earlier : NoneUnder asked chain earlier
-  pub valid : IsValid (question asked chain anchor)
+  pub valid : IsValidChain (question asked chain anchor)
   pub accepted : AreAccepted (question asked chain anchor) policies
 
 -- ---- candidates in their order
@@ -47,7 +49,7 @@ pub record IsFirstUnder (asked : TrustAnchor → Asked) (chain : List Certificat
 pub record Search : Type 0 where
   pub certificates : List Certificate
   pub anchors : List TrustAnchor
-  pub asked : TrustAnchor → Asked
+  pub asked : TrustAnchor → ValidationInputs
 
 -- the certificates at these places
 abbrev pub with_certificate : Option Certificate → List Certificate → List Certificate
@@ -66,7 +68,7 @@ NoneOf s chains = AllByRecursion
 
 -- the chain is the first of these that is valid, and the anchor of this number the first under
 -- which it is
-pub record IsFirst (s : Search) (tried : List (List ℕ)) (number : ℕ) (chain : List ℕ)
+pub record IsFirstChain (s : Search) (tried : List (List ℕ)) (number : ℕ) (chain : List ℕ)
     (policies : List Label) : Type 0 where
   pub before : List (List ℕ)
   pub after : List (List ℕ)
@@ -79,22 +81,23 @@ abbrev pub most : ℕ
 most = 4096
 
 -- the answer, where these are all candidates in their order
-abbrev pub Answers : Search → List (List ℕ) → Answer → Type 0
+abbrev pub Answers : Search → List (List ℕ) → SearchAnswer → Type 0
 Answers s candidates (Found number chain policies) =
-    IsFirst s (take most candidates) number chain.items (map (λ p. p.now) policies.items)
+    IsFirstChain s (take most candidates) number chain.items
+    (map (λ p. p.content.now) policies.items)
 Answers s candidates NoPath = (length candidates ≤ most) × NoneOf s candidates
 Answers s candidates SearchLimit = (most < length candidates) × NoneOf s (take most candidates)
 
-pub record IsAnswer (s : Search) (answer : Answer) : Type 0 where
+pub record IsSearchAnswer (s : Search) (answer : SearchAnswer) : Type 0 where
   pub candidates : List (List ℕ)
   pub are_candidates : AreCandidates (issues s.certificates) (length s.certificates) candidates
   pub answers : Answers s candidates answer
 
 -- two answers say the same
-abbrev pub IsSame : Answer → Answer → Type 0
+abbrev pub IsSame : SearchAnswer → SearchAnswer → Type 0
 IsSame (Found number chain policies) (Found other another others) =
     (number ≡ other) × (chain.items ≡ another.items)
-    × (map (λ p. p.now) policies.items ≡ map (λ p. p.now) others.items)
+    × (map (λ p. p.content.now) policies.items ≡ map (λ p. p.content.now) others.items)
 IsSame NoPath NoPath = Unit {0}
 IsSame SearchLimit SearchLimit = Unit {0}
 IsSame answer other = ⊥

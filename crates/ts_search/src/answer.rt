@@ -1,8 +1,10 @@
 //! What a search answers.
 
+use ts_der::OidRef;
+
 /// The answer of a search.
 #[derive(Drop)]
-pub enum Answer<'a> {
+pub enum SearchAnswer<'a> {
     /// A chain is valid under an anchor.
     Found {
         /// The anchor's place among the anchors, from 0.
@@ -10,9 +12,9 @@ pub enum Answer<'a> {
         /// The places of the chain's certificates, from the anchor's side: 0 is the leaf, which is
         /// last, and 1 the first of the pool.
         chain: Vec<u8>,
-        /// The policies that are accepted, each as the content octets of its object identifier,
-        /// ascending by these.
-        policies: Vec<&'a [u8]>,
+        /// The policies that are accepted, ascending by the content octets of their object
+        /// identifiers.
+        policies: Vec<OidRef<'a>>,
     },
     /// No candidate is valid under any anchor.
     NoPath,

@@ -1,9 +1,9 @@
 //! Fronts of chains that are not valid: what the failure of one candidate says of others.
 
 ghost use Rattle.std.specs.Prelude.{◌≡◌, ◌≤◌, List, IsTrue, IfOk, length, map, take};
-ghost use Rattle.ts_search.specs.Dead.{AreDeadUnder, BeginsWithOne, fronts_in};
+ghost use Rattle.ts_search.specs.inside.Dead.{AreDeadUnder, BeginsWithOne, fronts_in};
 ghost use Rattle.ts_cert.specs.Certificate.{Certificate};
-ghost use Rattle.ts_path.specs.Asked.{Asked, TrustAnchor};
+ghost use Rattle.ts_path.specs.Asked.{ValidationInputs, TrustAnchor};
 
 use std::alloc::{AllocError, Global};
 
@@ -13,7 +13,7 @@ pub(crate) type Fronts = Vec<Vec<Vec<u8>>>;
 /// No front for any of so many anchors.
 pub(crate) fn no_fronts(alloc: Global, anchors: usize) -> Result<Fronts, AllocError>
     ensures length { IfOk result (λ fronts. length fronts.items ≡ anchors) }
-    ensures dead { IfOk result (λ fronts. (asked : TrustAnchor → Asked)
+    ensures dead { IfOk result (λ fronts. (asked : TrustAnchor → ValidationInputs)
         (certificates : List Certificate) (under : List TrustAnchor)
         → AreDeadUnder asked certificates under (fronts_in fronts.items)) }
 {

@@ -5,7 +5,7 @@ ghost use Rattle.std.specs.List.{range_with_len};
 ghost use Rattle.ts_name.specs.Sameness.{is_same_name};
 ghost use Rattle.ts_cert.specs.CertView.{cert_in};
 ghost use Rattle.ts_search.specs.Candidates.{issues as issues_in};
-ghost use Rattle.ts_search.specs.Levels.{AreRows, issuers};
+ghost use Rattle.ts_search.specs.inside.Levels.{AreRows, issuers};
 
 use std::alloc::{AllocError, Global};
 use ts_cert::Cert;

@@ -2,7 +2,7 @@
 
 ghost use Rattle.std.specs.Prelude.{◌≡◌, ◌≤◌, ◌<◌, ◌++◌, ◌∷◌, [], length, map, take, IfOk, OnOk};
 ghost use Rattle.std.specs.List.{flat_map};
-ghost use Rattle.ts_search.specs.Levels.{top_row, longer as longer_of};
+ghost use Rattle.ts_search.specs.inside.Levels.{top_row, longer as longer_of};
 
 use std::alloc::{AllocError, Global};
 

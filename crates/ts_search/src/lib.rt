@@ -16,8 +16,8 @@
 //! order, the shorter first, and of one length by their places from the leaf up; each under the
 //! anchors in their order. The first pair that path validation calls valid is the answer.
 //!
-//! - [`search`]: the answer is that over all candidates in order (`IsAnswer`); out of memory is its
-//!   only error.
+//! - [`search`]: the answer is that over all candidates in order (`IsSearchAnswer`); out of memory
+//!   is its only error.
 //! - [`certificates_at`]: the certificates at the places of a chain.
 //! - [`laws::one_answer`]: the candidates in order are one list, so that a search has one answer.
 //!
@@ -38,6 +38,6 @@ mod levels;
 mod trial;
 mod walk;
 
-pub use answer::Answer;
+pub use answer::SearchAnswer;
 pub use trial::certificates_at;
 pub use walk::{MAX_CANDIDATES, MAX_LENGTH, MAX_POOL, search};

@@ -8,20 +8,24 @@ ghost use Rattle.std.specs.Prelude.{◌≡◌, ◌≤◌, ◌<◌, length, map, 
 ghost use Rattle.std.specs.Prelude.{◌↔◌, IsTrue, OnOk};
 ghost use Rattle.ts_name.specs.Sameness.{canon_name};
 ghost use Rattle.ts_cert.specs.CertView.{cert_in};
-ghost use Rattle.ts_path.specs.Conditions.{number_of};
+ghost use Rattle.ts_reason.specs.Conditions.{number_of};
 ghost use Rattle.ts_path.specs.View.{anchor_in, asked_under};
 ghost use Rattle.ts_search.specs.Search.{certificates_at as certificates_of, question};
 ghost use Rattle.ts_path.specs.declared.verdict.Verdict.TheVariants.{Invalid};
-ghost use Rattle.ts_path.specs.Verdict.{IsVerdict, condition_of};
-ghost use Rattle.ts_search.specs.Dead.{AreDead, AreDeadUnder, fronts_in};
-ghost use Rattle.ts_search.specs.Trial.{AreTriable, FirstOf, FirstOrNone, IsTriable, ValidOrNot};
+ghost use Rattle.ts_path.specs.Verdict.{IsVerdict};
+ghost use Rattle.ts_reason.specs.View.{condition_of};
+ghost use Rattle.ts_search.specs.inside.Dead.{AreDead, AreDeadUnder, fronts_in};
+ghost use Rattle.ts_search.specs.inside.Trial.{AreTriable, FirstOf, FirstOrNone, IsTriable};
+ghost use Rattle.ts_search.specs.inside.Trial.{ValidOrNot};
 ghost use Rattle.ts_search.specs.View.{search_among};
 
-use crate::answer::Answer;
+use crate::answer::SearchAnswer;
 use crate::fronts::{Fronts, front_of, has_front};
 use std::alloc::{AllocError, Global};
 use ts_cert::Cert;
-use ts_path::{Anchor, Inputs, Reason, Verdict, validate};
+use ts_der::OidRef;
+use ts_path::{Anchor, Inputs, Verdict, validate};
+use ts_reason::Reason;
 use ts_revoke::Crls;
 use ts_sig::SignatureCheck;
 
@@ -29,7 +33,7 @@ use ts_sig::SignatureCheck;
 #[derive(Drop)]
 pub(crate) struct Success<'a> {
     pub(crate) anchor: usize,
-    pub(crate) policies: Vec<&'a [u8]>,
+    pub(crate) policies: Vec<OidRef<'a>>,
 }
 
 /// The certificate at a place, if there is one.
@@ -83,21 +87,22 @@ fn is_issuer(anchor: &Anchor<'_>, cert: &Cert<'_>) -> bool
 
 /// Whether a reason is that of a condition which looks at a certificate and those above it alone:
 /// not at those below it, at their number, or at policies.
-fn is_of_front(reason: &Reason<'_>) -> bool
+fn is_of_front(reason: &Reason<OidRef<'_>>) -> bool
     ensures { IsTrue result ↔ (number_of (condition_of reason.now) ≤ 7) }
 {
     reason.number() <= 7
 }
 
 impl<'t, 'a, S: SignatureCheck> Trial<'t, 'a, S> {
-    /// Keeps the front of a chain that is not valid, if each chain with this front fails as it does.
+    /// Keeps the front of a chain that is not valid, if each chain with this front fails as it
+    /// does.
     fn learn(
         &self,
         places: &[u8],
         chain: &[Cert<'a>],
         anchor: &Anchor<'a>,
         position: u8,
-        reason: &Reason<'a>,
+        reason: &Reason<OidRef<'a>>,
         fronts: &mut Vec<Vec<u8>>,
     ) -> Result<(), AllocError>
         requires at { map cert_in chain.now
@@ -128,7 +133,7 @@ impl<'t, 'a, S: SignatureCheck> Trial<'t, 'a, S> {
         chain: &[Cert<'a>],
         anchor: &Anchor<'a>,
         fronts: &mut Vec<Vec<u8>>,
-    ) -> Result<Option<Vec<&'a [u8]>>, AllocError>
+    ) -> Result<Option<Vec<OidRef<'a>>>, AllocError>
         requires some { 1 ≤ length chain.now }
         requires few { length chain.now ≤ 16 }
         requires at { map cert_in chain.now
@@ -209,7 +214,7 @@ impl<'t, 'a, S: SignatureCheck> Trial<'t, 'a, S> {
         &self,
         chains: &[Vec<u8>],
         fronts: &mut Fronts,
-    ) -> Result<Option<Answer<'a>>, AllocError>
+    ) -> Result<Option<SearchAnswer<'a>>, AllocError>
         requires triable { AreTriable (map cert_in self.now.certificates.now)
             (map (λ c. c.items) chains.now) }
         requires rows { length fronts.old.items ≡ length self.now.anchors.now }
@@ -231,7 +236,7 @@ impl<'t, 'a, S: SignatureCheck> Trial<'t, 'a, S> {
             if let Some(success) = self.first_anchor(chain, &under, fronts)? {
                 let Success { anchor, policies } = success;
                 let chain = Vec::from_slice(self.alloc, chain)?;
-                return Ok(Some(Answer::Found {
+                return Ok(Some(SearchAnswer::Found {
                     anchor,
                     chain,
                     policies,

@@ -2,10 +2,10 @@
 
 ghost use Rattle.std.specs.Prelude.{◌≡◌, ◌≤◌, ◌<◌, ◌∷◌, List, ℕ, length, map, IfOk};
 ghost use Rattle.ts_cert.specs.CertView.{cert_in};
-ghost use Rattle.ts_search.specs.Search.{IsAnswer};
+ghost use Rattle.ts_search.specs.Search.{IsSearchAnswer};
 ghost use Rattle.ts_search.specs.View.{search_among, search_in};
 
-use crate::answer::Answer;
+use crate::answer::SearchAnswer;
 use crate::fronts::no_fronts;
 use crate::issuers::all_issuers;
 use crate::levels::{leaf_alone, longer};
@@ -49,10 +49,10 @@ fn search_all<'a, S: SignatureCheck>(
     inputs: &Inputs<'a>,
     crls: &Crls<'_>,
     check: &S,
-) -> Result<Answer<'a>, AllocError>
+) -> Result<SearchAnswer<'a>, AllocError>
     requires some { 1 ≤ length certificates.now }
     requires few { length certificates.now ≤ 33 }
-    ensures { IfOk result (IsAnswer
+    ensures { IfOk result (IsSearchAnswer
         (search_among certificates.now anchors.now inputs.now crls.now (S.accepts check.now))) }
 {
     let trial = Trial {
@@ -71,7 +71,7 @@ fn search_all<'a, S: SignatureCheck>(
         if left < chains.len() {
             let tried = &chains[..left];
             let found = trial.first_valid(tried, &mut fronts)?;
-            return Ok(found.unwrap_or(Answer::SearchLimit));
+            return Ok(found.unwrap_or(SearchAnswer::SearchLimit));
         }
         if let Some(found) = trial.first_valid(&chains, &mut fronts)? {
             return Ok(found);
@@ -79,7 +79,7 @@ fn search_all<'a, S: SignatureCheck>(
         left -= chains.len();
         chains = longer(alloc, &rows, &chains, left + 1)?;
     }
-    Ok(Answer::NoPath)
+    Ok(SearchAnswer::NoPath)
 }
 
 /// Searches a chain from a trust anchor to the leaf, through certificates of the pool: of the
@@ -97,9 +97,9 @@ pub fn search<'a, S: SignatureCheck>(
     inputs: &Inputs<'a>,
     crls: &Crls<'_>,
     check: &S,
-) -> Result<Answer<'a>, AllocError>
+) -> Result<SearchAnswer<'a>, AllocError>
     requires { length pool.now ≤ 32 }
-    ensures { IfOk result (IsAnswer
+    ensures { IfOk result (IsSearchAnswer
         (search_in leaf.now pool.now anchors.now inputs.now crls.now (S.accepts check.now))) }
 {
     let certificates = together(alloc, leaf, pool)?;

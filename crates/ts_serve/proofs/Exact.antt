@@ -3,7 +3,7 @@ use Rattle.std.proofs.Common.{◌≡◌, ◌∙◌, refl, sym, ap, subst, ℕ, t
 use Rattle.std.specs.List.{flat_map, AllByRecursion}
 use Rattle.std.proofs.lemmas.List.{append-nil}
 use Rattle.std.specs.Io.KnownBytes.{Appends}
-use Rattle.ts_wire.specs.Frames.{Fits, encoding}
+use Rattle.ts_wire.specs.Frames.{FrameFits, frame_encoding}
 use Rattle.ts_wire.specs.Stream.{Ends, Splits}
 use Rattle.ts_wire.specs.declared.fault.FrameFault.{FrameFault}
 use Rattle.ts_wire.specs.declared.fault.FrameFault.TheVariants.{Kind}
@@ -22,21 +22,25 @@ pub record Beside (frames taken : List Frame) (rest : List ℕ) (fault : Option 
   pub is : frames ≡ taken ++ more
   pub splits : Splits rest more fault
 
-one_front : (f : Frame) (tail : List ℕ) (frames : List Frame) (stream : List ℕ) (fault : Option FrameFault) → Fits f → stream ≡ encoding f ++ tail → Splits stream frames fault → Beside frames (f ∷ []) tail fault
+one_front : (f : Frame) (tail : List ℕ) (frames : List Frame) (stream : List ℕ)
+    (fault : Option FrameFault) → FrameFits f → stream ≡ frame_encoding f ++ tail
+    → Splits stream frames fault → Beside frames (f ∷ []) tail fault
 one_front f tail [] stream fault fits is s = absurd (frame_or_end fault f tail s.rest fits (sym s.is ∙ is) s.ends)
 one_front f tail (g ∷ gs) stream fault fits is s =
-    let same : encoding f ++ tail ≡ encoding g ++ (flat_map encoding gs ++ s.rest) = sym is ∙ s.is ∙ split g gs s.rest in
+    let same : frame_encoding f ++ tail ≡ frame_encoding g ++ (flat_map frame_encoding gs ++ s.rest) = sym is ∙ s.is ∙ split g gs s.rest in
     record {
       more = gs;
-      is = ap (λ (x : Frame). x ∷ gs) (sym (same_frame f g tail (flat_map encoding gs ++ s.rest) fits s.each.0 same));
-      splits = record { rest = s.rest; is = same_rest f g tail (flat_map encoding gs ++ s.rest) fits s.each.0 same; each = s.each.1; ends = s.ends };
+      is = ap (λ (x : Frame). x ∷ gs) (sym (same_frame f g tail (flat_map frame_encoding gs ++ s.rest) fits s.each.0 same));
+      splits = record { rest = s.rest; is = same_rest f g tail (flat_map frame_encoding gs ++ s.rest) fits s.each.0 same; each = s.each.1; ends = s.ends };
     }
 
-pub all_front : (taken frames : List Frame) (rest stream : List ℕ) (fault : Option FrameFault) → AllByRecursion Fits taken → stream ≡ flat_map encoding taken ++ rest → Splits stream frames fault → Beside frames taken rest fault
+pub all_front : (taken frames : List Frame) (rest stream : List ℕ) (fault : Option FrameFault)
+    → AllByRecursion FrameFits taken → stream ≡ flat_map frame_encoding taken ++ rest
+    → Splits stream frames fault → Beside frames taken rest fault
 all_front [] frames rest stream fault fit is s = record { more = frames; is = refl; splits = subst (λ l. Splits l frames fault) is s }
 all_front (f ∷ fs) frames rest stream fault fit is s =
-    let one = one_front f (flat_map encoding fs ++ rest) frames stream fault fit.0 (is ∙ split f fs rest) s in
-    let others = all_front fs one.more rest (flat_map encoding fs ++ rest) fault fit.1 refl one.splits in
+    let one = one_front f (flat_map frame_encoding fs ++ rest) frames stream fault fit.0 (is ∙ split f fs rest) s in
+    let others = all_front fs one.more rest (flat_map frame_encoding fs ++ rest) fault fit.1 refl one.splits in
     record { more = others.more; is = one.is ∙ ap (λ l. f ∷ l) others.is; splits = others.splits }
 
 pub requests-append : (taken more : List Frame) → AllByRecursion (λ f. is_request f ≡ true) taken → requests_of (taken ++ more) ≡ taken ++ requests_of more
@@ -73,8 +77,12 @@ module _ {S : Type 0} (turn : S → Frame → List Frame → S → Type 0) (only
   all_requests old new (f ∷ fs) answers run = (only old run.0 f run.1 run.3, all_requests run.0 new fs run.2 run.4)
 
   -- all requests were taken
-  whole : (stream : List ℕ) (frames : List Frame) (fault at' stop : Option FrameFault) (old new : S) (before after : Option (List ℕ)) → (s : Serving turn stream at' old new) → Splits stream frames fault
-      → ((more : List Frame) → Splits s.rest more fault → IsStop more fault stop) → Appends before after (text (s.answers ++ fault_frames stop)) → IsAnsweredTo turn frames fault stop old before new after
+  whole : (stream : List ℕ) (frames : List Frame) (fault at' stop : Option FrameFault) (old new : S)
+      (before after : Option (List ℕ)) → (s : Serving turn stream at' old new)
+      → Splits stream frames fault
+      → ((more : List Frame) → Splits s.rest more fault → IsStop more fault stop)
+      → Appends before after (text (s.answers ++ fault_frames stop))
+      → IsAnsweredTo turn frames fault stop old before new after
   whole stream frames fault at' stop old new before after s splits end written =
       let all = all_requests old new s.requests s.answers s.run in
       let b = all_front s.requests frames s.rest stream fault s.each s.is splits in
@@ -90,14 +98,18 @@ module _ {S : Type 0} (turn : S → Frame → List Frame → S → Type 0) (only
   front_of [] more = refl
   front_of (f ∷ fs) more = ap (λ l. f ∷ l) (front_of fs more)
 
-  some_taken : (stream : List ℕ) (frames : List Frame) (fault at' : Option FrameFault) (old new : S) → (s : Serving turn stream at' old new) → Splits stream frames fault → take (length s.requests) (requests_of frames) ≡ s.requests
+  some_taken : (stream : List ℕ) (frames : List Frame) (fault at' : Option FrameFault) (old new : S)
+      → (s : Serving turn stream at' old new) → Splits stream frames fault
+      → take (length s.requests) (requests_of frames) ≡ s.requests
   some_taken stream frames fault at' old new s splits =
       let all = all_requests old new s.requests s.answers s.run in
       let b = all_front s.requests frames s.rest stream fault s.each s.is splits in
       ap (λ l. take (length s.requests) (requests_of l)) b.is ∙ ap (take (length s.requests)) (requests-append s.requests b.more all) ∙ front_of s.requests (requests_of b.more)
 
   -- the first requests were taken
-  cut_short : (stream : List ℕ) (frames : List Frame) (fault last : Option FrameFault) (old new : S) (before after : Option (List ℕ)) → (s : Serving turn stream last old new) → Splits stream frames fault
+  cut_short : (stream : List ℕ) (frames : List Frame) (fault last : Option FrameFault) (old new : S)
+      (before after : Option (List ℕ)) → (s : Serving turn stream last old new)
+      → Splits stream frames fault
       → AppendsFront before after (text (s.answers ++ fault_frames last)) → IsCutShort turn frames fault old before new after
   cut_short stream frames fault None old new before after s splits written = record {
     taken = length s.requests;
@@ -127,7 +139,9 @@ module _ {S : Type 0} (turn : S → Frame → List Frame → S → Type 0) (only
   nothing_behind : (answers : List Frame) (before after : Option (List ℕ)) → Appends before after (text answers) → Appends before after (text (answers ++ []))
   nothing_behind answers before after p = subst (Appends before after) (sym (text-nil answers)) p
 
-  pub exact : (stream : List ℕ) (frames : List Frame) (fault : Option FrameFault) (old new : S) (before after : Option (List ℕ)) (result : Result (Unit {0}) ServeFault) → IsServed turn stream old before result new after → Splits stream frames fault
+  pub exact : (stream : List ℕ) (frames : List Frame) (fault : Option FrameFault) (old new : S)
+      (before after : Option (List ℕ)) (result : Result (Unit {0}) ServeFault)
+      → IsServed turn stream old before result new after → Splits stream frames fault
       → IsAnswered turn frames fault old before result new after
   exact stream frames fault old new before after (Ok done) h splits =
       let empty : Ends None h.0.rest = subst (Ends None) (sym h.1) (inl (omega arith)) in
@@ -141,7 +155,9 @@ module _ {S : Type 0} (turn : S → Frame → List Frame → S → Type 0) (only
   exact stream frames fault old new before after (Err faults.ReadLimit) h splits = cut_short stream frames fault h.fault old new before after h.served splits h.written
   exact stream frames fault old new before after (Err faults.Memory) h splits = cut_short stream frames fault h.fault old new before after h.served splits h.written
 
-  pub exact_if : (left : Option (List ℕ)) (old new : S) (before after : Option (List ℕ)) (result : Result (Unit {0}) ServeFault) → IfSome left (λ stream. IsServed turn stream old before result new after)
+  pub exact_if : (left : Option (List ℕ)) (old new : S) (before after : Option (List ℕ))
+      (result : Result (Unit {0}) ServeFault)
+      → IfSome left (λ stream. IsServed turn stream old before result new after)
       → IfSome left (λ stream. (frames : List Frame) (fault : Option FrameFault) → Splits stream frames fault → IsAnswered turn frames fault old before result new after)
   exact_if None old new before after result h = tt
   exact_if (Some stream) old new before after result h = λ frames fault splits. exact stream frames fault old new before after result h splits

@@ -10,9 +10,9 @@ use Rattle.ts_record.specs.Facts.{IsBallot, IsPosition}
 use Rattle.ts_node.specs.Inputs.{BodyFits}
 use Rattle.ts_store.specs.Octets.{octets_of}
 use Rattle.ts_serve.proofs.Commands.{command_short}
-use Rattle.ts_codec.specs.Ranges.{is_ballot, is_node, is_position}
+use Rattle.ts_codec.specs.Ranges.{is_ballot, is_node_number, is_position}
 use Rattle.ts_codec.proofs.Truths.{first_true, second_true}
-use Rattle.ts_wire.specs.Frames.{BodyFits as FieldsFit, Fits}
+use Rattle.ts_wire.specs.Frames.{BodyFits as FieldsFit, FrameFits}
 use Rattle.ts_wire.specs.declared.frame.Frame.TheVariants.{Peer}
 
 position : (p : ℕ) → is_position p ≡ true → IsPosition p
@@ -20,8 +20,8 @@ position p is = record { from = leb-true 1 p (first_true (nat_le 1 p) (nat_le p 
 
 ballot : (b : ℕ) → is_ballot b ≡ true → IsBallot b
 ballot b is =
-    let low = first_true (nat_le 16 b && nat_lt b 68719476736) (is_node (b % 16)) is in
-    let node = second_true (nat_le 16 b && nat_lt b 68719476736) (is_node (b % 16)) is in
+    let low = first_true (nat_le 16 b && nat_lt b 68719476736) (is_node_number (b % 16)) is in
+    let node = second_true (nat_le 16 b && nat_lt b 68719476736) (is_node_number (b % 16)) is in
     record {
       from = leb-true 16 b (first_true (nat_le 16 b) (nat_lt b 68719476736) low);
       to = ltb-true b 68719476736 (second_true (nat_le 16 b) (nat_lt b 68719476736) low);
@@ -38,5 +38,5 @@ body_fits (Accepted p b c) fits = (position p fits.0, command_short c fits.2)
 body_fits (Ask p) fits = tt
 body_fits (Give p c) fits = (position p fits.0, command_short c fits.1)
 
-pub message_fits : (m : Message Command) → Fits (Peer m) → BodyFits octets_of m.body
+pub message_fits : (m : Message Command) → FrameFits (Peer m) → BodyFits octets_of m.body
 message_fits m fits = body_fits m.body fits.ranges.2

@@ -6,7 +6,7 @@ use Rattle.ts_synod.specs.declared.message.Message.{Message}
 use Rattle.ts_store.specs.declared.command.Command.{Command}
 use Rattle.ts_wire.specs.declared.frame.Frame.{Frame}
 use Rattle.ts_wire.specs.declared.frame.Frame.TheVariants.{Peer}
-use Rattle.ts_serve.specs.Outbox.{IsOutbox, messages_in}
+use Rattle.ts_serve.specs.inside.Outbox.{IsOutbox, messages_in}
 
 messages_in-peers : (messages : List (Message Command)) → messages_in (map Peer messages) ≡ messages
 messages_in-peers [] = refl
@@ -42,7 +42,9 @@ pub none_yet : (old : Vec Frame) → IsOutbox old → old.items ≡ take 256 (ol
 none_yet old o = let few : length old.items ≤ 256 = o.few in sym (ap (take 256) (append-nil old.items) ∙ take_all 256 old.items few)
 
 -- there is room
-pub room : (old new : Vec Frame) (message : Message Command) → IsOutbox old → length old.items < 256 → new.items ≡ old.items ++ Peer message ∷ [] → new.items ≡ take 256 (old.items ++ Peer message ∷ [])
+pub room : (old new : Vec Frame) (message : Message Command) → IsOutbox old → length old.items < 256
+    → new.items ≡ old.items ++ Peer message ∷ []
+    → new.items ≡ take 256 (old.items ++ Peer message ∷ [])
 room old new message o some is =
     let few : length (old.items ++ Peer message ∷ []) ≤ 256 = omega (arith, length-append old.items (Peer message ∷ [])) in
     is ∙ sym (take_all 256 (old.items ++ Peer message ∷ []) few)
@@ -53,16 +55,23 @@ no_room old message o full =
     let few : length old.items ≤ 256 = o.few in
     sym (take-append-le 256 old.items (Peer message ∷ []) full ∙ take_all 256 old.items few)
 
-pub holds_more : (old new : Vec Frame) (message : Message Command) → IsOutbox old → length old.items < 256 → new.items ≡ old.items ++ Peer message ∷ [] → vec_capacity new ≡ vec_capacity old → IsOutbox new
+pub holds_more : (old new : Vec Frame) (message : Message Command) → IsOutbox old
+    → length old.items < 256 → new.items ≡ old.items ++ Peer message ∷ []
+    → vec_capacity new ≡ vec_capacity old → IsOutbox new
 holds_more old new message o some is same = record {
   peers = is ∙ ap (λ l. l ++ Peer message ∷ []) o.peers ∙ sym (peers-append (messages_in old.items) (message ∷ []))
-      ∙ ap (λ l. map Peer l) (sym (ap messages_in (is ∙ ap (λ l. l ++ Peer message ∷ []) o.peers ∙ sym (peers-append (messages_in old.items) (message ∷ []))) ∙ messages_in-peers (messages_in old.items ++ message ∷ [])));
+      ∙ ap (λ l. map Peer l)
+      (sym (ap messages_in (is ∙ ap (λ l. l ++ Peer message ∷ []) o.peers
+      ∙ sym (peers-append (messages_in old.items) (message ∷ [])))
+      ∙ messages_in-peers (messages_in old.items ++ message ∷ [])));
   few = omega (arith, ap length is, length-append old.items (Peer message ∷ []), some);
   room = omega (arith, o.room, same);
 }
 
 -- the messages are the first of all
-pub first_stay : (old new : Vec Frame) (messages : List (Message Command)) → IsOutbox old → new.items ≡ take 256 (old.items ++ map Peer messages) → messages_in new.items ≡ take 256 (messages_in old.items ++ messages)
+pub first_stay : (old new : Vec Frame) (messages : List (Message Command)) → IsOutbox old
+    → new.items ≡ take 256 (old.items ++ map Peer messages)
+    → messages_in new.items ≡ take 256 (messages_in old.items ++ messages)
 first_stay old new messages o is =
     ap messages_in (is ∙ ap (λ l. take 256 (l ++ map Peer messages)) o.peers ∙ ap (take 256) (sym (peers-append (messages_in old.items) messages)) ∙ take-peers 256 (messages_in old.items ++ messages))
     ∙ messages_in-peers (take 256 (messages_in old.items ++ messages))

@@ -3,12 +3,12 @@ use Rattle.std.proofs.Common.{◌≡◌, ◌∙◌, refl, sym, ap, subst, ℕ, L
 use Rattle.std.specs.List.{flat_map, AllByRecursion}
 use Rattle.std.proofs.lemmas.List.{append-nil}
 use Rattle.std.proofs.lemmas.Grind.{flat_map-append}
-use Rattle.ts_wire.specs.Frames.{Fits, encoding}
+use Rattle.ts_wire.specs.Frames.{FrameFits, frame_encoding}
 use Rattle.ts_wire.specs.declared.fault.FrameFault.{FrameFault}
 use Rattle.ts_wire.specs.declared.frame.Frame.{Frame}
 use Rattle.ts_serve.specs.Stream.{Run, Serving, StopsIf}
 
-pub all_both : (frames more : List Frame) → AllByRecursion Fits frames → AllByRecursion Fits more → AllByRecursion Fits (frames ++ more)
+pub all_both : (frames more : List Frame) → AllByRecursion FrameFits frames → AllByRecursion FrameFits more → AllByRecursion FrameFits (frames ++ more)
 all_both [] more all both = both
 all_both (f ∷ fs) more all both = (all.0, all_both fs more all.1 both)
 
@@ -28,11 +28,13 @@ module _ {S : Type 0} (turn : S → Frame → List Frame → S → Type 0) where
   untaken octets fault a b stops same = record { requests = []; rest = octets; is = refl; each = tt; stops = stops; answers = []; run = (refl, same) }
 
   -- one request was taken
-  abbrev pub taken_one : (octets rest : List ℕ) (a b : S) (request : Frame) (answers : List Frame) → octets ≡ encoding request ++ rest → Fits request → turn a request answers b → Serving turn octets None a b
+  abbrev pub taken_one : (octets rest : List ℕ) (a b : S) (request : Frame) (answers : List Frame)
+      → octets ≡ frame_encoding request ++ rest → FrameFits request → turn a request answers b
+      → Serving turn octets None a b
   taken_one octets rest a b request answers is fits t = record {
     requests = request ∷ [];
     rest = rest;
-    is = is ∙ ap (λ l. l ++ rest) (sym (append-nil (encoding request)));
+    is = is ∙ ap (λ l. l ++ rest) (sym (append-nil (frame_encoding request)));
     each = (fits, tt);
     stops = tt;
     answers = answers;
@@ -40,13 +42,15 @@ module _ {S : Type 0} (turn : S → Frame → List Frame → S → Type 0) where
   }
 
   -- what is left of some octets is served with a piece that follows them
-  abbrev pub serving_join : (octets held piece : List ℕ) (fault : Option FrameFault) (a b c : S) → (s : Serving turn octets None a b) → s.rest ≡ held → Serving turn (held ++ piece) fault b c → Serving turn (octets ++ piece) fault a c
+  abbrev pub serving_join : (octets held piece : List ℕ) (fault : Option FrameFault) (a b c : S)
+      → (s : Serving turn octets None a b) → s.rest ≡ held → Serving turn (held ++ piece) fault b c
+      → Serving turn (octets ++ piece) fault a c
   serving_join octets held piece fault a b c s left t = record {
     requests = s.requests ++ t.requests;
     rest = t.rest;
-    is = ap (λ l. l ++ piece) (s.is ∙ ap (λ l. flat_map encoding s.requests ++ l) left) ∙ append_assoc (flat_map encoding s.requests) held piece
-        ∙ ap (λ l. flat_map encoding s.requests ++ l) t.is ∙ sym (append_assoc (flat_map encoding s.requests) (flat_map encoding t.requests) t.rest)
-        ∙ ap (λ l. l ++ t.rest) (sym (flat_map-append encoding s.requests t.requests));
+    is = ap (λ l. l ++ piece) (s.is ∙ ap (λ l. flat_map frame_encoding s.requests ++ l) left) ∙ append_assoc (flat_map frame_encoding s.requests) held piece
+        ∙ ap (λ l. flat_map frame_encoding s.requests ++ l) t.is ∙ sym (append_assoc (flat_map frame_encoding s.requests) (flat_map frame_encoding t.requests) t.rest)
+        ∙ ap (λ l. l ++ t.rest) (sym (flat_map-append frame_encoding s.requests t.requests));
     each = all_both s.requests t.requests s.each t.each;
     stops = t.stops;
     answers = s.answers ++ t.answers;

@@ -4,15 +4,17 @@ use Rattle.ts_disk.specs.Disk.{State}
 use Rattle.ts_synod.specs.Store.{Store}
 use Rattle.ts_store.specs.declared.command.Command.{Command}
 use Rattle.ts_store.specs.declared.outcome.Outcome.{Outcome}
-use Rattle.ts_question.specs.Question.{Asked}
-use Rattle.ts_question.specs.Reply.{Answered}
+use Rattle.ts_question.specs.Question.{StoreQuestion}
+use Rattle.ts_question.specs.Reply.{NumberedReply}
 use Rattle.ts_wire.specs.declared.frame.Frame.{Frame}
 use Rattle.ts_wire.specs.declared.frame.Frame.TheVariants as frames
 use Rattle.ts_serve.specs.declared.server.Server.{Server}
 use Rattle.ts_serve.specs.Requests.{is_request}
 use Rattle.ts_serve.specs.Turn.{TurnBy}
 
-module _ {D M B : Type 0} (state : D → State) (store : Store Command Outcome (List Command) Asked (List Command)) (basis : M → B) (is_answer : B → List Command → Asked → Answered → Type 0) where
+module _ {D M B : Type 0} (state : D → State)
+    (store : Store Command Outcome (List Command) StoreQuestion (List Command)) (basis : M → B)
+    (is_answer : B → List Command → StoreQuestion → NumberedReply → Type 0) where
   pub only_requests : (staged : Bool) (old new : Server D M) (frame : Frame) (answers : List Frame) → TurnBy state store basis is_answer staged old frame answers new → is_request frame ≡ true
   only_requests staged old new (frames.Peer message) answers t = refl
   only_requests staged old new (frames.Submit command) answers t = refl

@@ -4,7 +4,7 @@ use Rattle.std.proofs.lemmas.List.{append-nil}
 use Rattle.std.specs.List.{flat_map}
 use Rattle.std.proofs.KnownBytes.{Consumes-all, Consumes-trans}
 use Rattle.std.specs.Io.KnownBytes.{Consumes, IsAtEnd}
-use Rattle.ts_wire.specs.Frames.{encoding}
+use Rattle.ts_wire.specs.Frames.{frame_encoding}
 use Rattle.ts_wire.specs.Stream.{IsPartial}
 use Rattle.ts_wire.specs.declared.fault.FrameFault.{FrameFault}
 use Rattle.ts_wire.specs.declared.frame.Frame.{Frame}
@@ -12,7 +12,7 @@ use Rattle.ts_wire.proofs.Streams.{stays}
 use Rattle.ts_serve.specs.declared.fault.ServeFault.{ServeFault}
 use Rattle.ts_serve.specs.declared.fault.ServeFault.TheVariants as faults
 use Rattle.ts_serve.specs.Stream.{IsCutOff, IsServed, Run, Serving, StopsIf}
-use Rattle.ts_serve.specs.Steps.{HasServed, Serves}
+use Rattle.ts_serve.specs.inside.Steps.{HasServed, Serves}
 use Rattle.ts_serve.proofs.Runs.{run_join}
 
 stops_longer : (fault : Option FrameFault) (octets later : List ℕ) → StopsIf fault octets → StopsIf fault (octets ++ later)
@@ -25,7 +25,7 @@ stops_longer (Some fault) octets later (inr other) = inr (
     after = other.1.after ++ later;
     fits = other.1.fits;
     other = other.1.other;
-    is = ap (λ l. l ++ later) other.1.is ∙ append_assoc (encoding other.1.frame) other.1.after later;
+    is = ap (λ l. l ++ later) other.1.is ∙ append_assoc (frame_encoding other.1.frame) other.1.after later;
   },
 )
 
@@ -47,7 +47,7 @@ module _ {S : Type 0} (turn : S → Frame → List Frame → S → Type 0) where
   longer octets later stream fault a b whole s = record {
     requests = s.requests;
     rest = s.rest ++ later;
-    is = sym whole ∙ ap (λ l. l ++ later) s.is ∙ append_assoc (flat_map encoding s.requests) s.rest later;
+    is = sym whole ∙ ap (λ l. l ++ later) s.is ∙ append_assoc (flat_map frame_encoding s.requests) s.rest later;
     each = s.each;
     stops = stops_longer fault s.rest later s.stops;
     answers = s.answers;
@@ -59,7 +59,9 @@ module _ {S : Type 0} (turn : S → Frame → List Frame → S → Type 0) where
       let part = read_part stream octets now read in
       record { fault = s.fault; served = longer octets part.0 stream s.fault a b part.1 s.served; written = s.written }
 
-  pub told : (stream : List ℕ) (now : Option (List ℕ)) (a b : S) (u w : Option (List ℕ)) (result : Result (Unit {0}) ServeFault) → Serves turn (Some stream) a u result now b w → IsServed turn stream a u result b w
+  pub told : (stream : List ℕ) (now : Option (List ℕ)) (a b : S) (u w : Option (List ℕ))
+      (result : Result (Unit {0}) ServeFault) → Serves turn (Some stream) a u result now b w
+      → IsServed turn stream a u result b w
   told stream now a b u w (Ok done) (octets, read, end, s) =
       let whole = read_whole stream octets now read end in
       let t : HasServed turn stream a u b [] w = subst (λ l. HasServed turn l a u b [] w) whole s in
@@ -76,7 +78,9 @@ module _ {S : Type 0} (turn : S → Frame → List Frame → S → Type 0) where
   told stream now a b u w (Err faults.ReadLimit) (octets, read, s) = cut_off stream octets now a b u w read s
   told stream now a b u w (Err faults.Memory) (octets, read, s) = cut_off stream octets now a b u w read s
 
-  pub if_told : (left now : Option (List ℕ)) (a b : S) (u w : Option (List ℕ)) (result : Result (Unit {0}) ServeFault) → Serves turn left a u result now b w → IfSome left (λ stream. IsServed turn stream a u result b w)
+  pub if_told : (left now : Option (List ℕ)) (a b : S) (u w : Option (List ℕ))
+      (result : Result (Unit {0}) ServeFault) → Serves turn left a u result now b w
+      → IfSome left (λ stream. IsServed turn stream a u result b w)
   if_told None now a b u w result s = tt
   if_told (Some stream) now a b u w result s = told stream now a b u w result s
 

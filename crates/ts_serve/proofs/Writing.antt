@@ -5,10 +5,10 @@ use Rattle.std.proofs.lemmas.Grind.{flat_map-append}
 use Rattle.std.proofs.KnownBytes.{Appends-nil, Appends-trans}
 use Rattle.std.specs.Io.KnownBytes.{Appends, Keeps}
 use Rattle.ts_wire.specs.declared.frame.Frame.{Frame}
-use Rattle.ts_serve.specs.Text.{AppendsFront, text, written}
+use Rattle.ts_serve.specs.Text.{AppendsFront, text, frame_text}
 
 pub text-append : (answers more : List Frame) → text (answers ++ more) ≡ text answers ++ text more
-text-append answers more = flat_map-append written answers more
+text-append answers more = flat_map-append frame_text answers more
 
 pub text-nil : (answers : List Frame) → text (answers ++ []) ≡ text answers
 text-nil answers = ap text (append-nil answers)

@@ -4,7 +4,7 @@ use Rattle.std.specs.Prelude.{◌≡◌, ◌≢◌, ◌⊎◌, ℕ, false, List,
 use Rattle.std.specs.Prelude.{Result, Ok, Err, take, if◌then◌else◌}
 use Rattle.std.specs.List.{flat_map, AllByRecursion}
 use Rattle.std.specs.Io.KnownBytes.{Appends}
-use Rattle.ts_wire.specs.Frames.{Fits, encoding}
+use Rattle.ts_wire.specs.Frames.{FrameFits, frame_encoding}
 use Rattle.ts_wire.specs.Stream.{IsFault, IsPartial}
 use Rattle.ts_wire.specs.declared.fault.FrameFault.{FrameFault}
 use Rattle.ts_wire.specs.declared.fault.FrameFault.TheVariants.{Kind}
@@ -18,9 +18,9 @@ use Rattle.ts_serve.specs.Text.{text, fault_frames, AppendsFront}
 pub record BeginsOther (octets : List ℕ) : Type 0 where
   pub frame : Frame
   pub after : List ℕ
-  pub fits : Fits frame
+  pub fits : FrameFits frame
   pub other : is_request frame ≡ false
-  pub is : octets ≡ encoding frame ++ after
+  pub is : octets ≡ frame_encoding frame ++ after
 
 -- where a server stops: a fault is in a frame's place, or a frame that is no request, which is Kind
 abbrev pub Stops : FrameFault → List ℕ → Type 0
@@ -55,8 +55,8 @@ module _ {S : Type 0} (turn : S → Frame → List Frame → S → Type 0) where
   pub record Serving (stream : List ℕ) (fault : Option FrameFault) (old new : S) : Type 0 where
     pub requests : List Frame
     pub rest : List ℕ
-    pub is : stream ≡ flat_map encoding requests ++ rest
-    pub each : AllByRecursion Fits requests
+    pub is : stream ≡ flat_map frame_encoding requests ++ rest
+    pub each : AllByRecursion FrameFits requests
     pub stops : StopsIf fault rest
     pub answers : List Frame
     pub run : Run old requests answers new

@@ -3,19 +3,19 @@ use Rattle.std.specs.Prelude.{◌≡◌, ◌+◌, ℕ, nat_le, List, [], ◌∷�
 use Rattle.std.specs.Prelude.{if◌then◌else◌}
 use Rattle.std.specs.List.{flat_map}
 use Rattle.std.specs.Io.KnownBytes.{Appends}
-use Rattle.ts_wire.specs.Frames.{fields, encoding}
+use Rattle.ts_wire.specs.Frames.{frame_fields, frame_encoding}
 use Rattle.ts_wire.specs.declared.fault.FrameFault.{FrameFault}
-use Rattle.ts_wire.specs.declared.fault.NodeFault.TheVariants.{Memory}
+use Rattle.ts_synod.specs.declared.fault.NodeFault.TheVariants.{Memory}
 use Rattle.ts_wire.specs.declared.frame.Frame.{Frame}
 use Rattle.ts_wire.specs.declared.frame.Frame.TheVariants as frames
 
 -- a frame as it is written: one that would be longer than a frame may be is NodeFault Memory
-abbrev pub written : Frame → List ℕ
-written frame = if nat_le (2 + length (fields frame)) 8388608 then encoding frame
-    else encoding (frames.NodeFault Memory)
+abbrev pub frame_text : Frame → List ℕ
+frame_text frame = if nat_le (2 + length (frame_fields frame)) 8388608 then frame_encoding frame
+    else frame_encoding (frames.NodeFault Memory)
 
 abbrev pub text : List Frame → List ℕ
-text answers = flat_map written answers
+text answers = flat_map frame_text answers
 
 -- what a fault in a frame's place is answered
 abbrev pub fault_frames : Option FrameFault → List Frame

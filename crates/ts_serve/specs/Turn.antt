@@ -6,19 +6,19 @@ use Rattle.ts_disk.specs.Disk.{State}
 use Rattle.ts_synod.specs.Store.{Store}
 use Rattle.ts_store.specs.declared.command.Command.{Command}
 use Rattle.ts_store.specs.declared.outcome.Outcome.{Outcome}
-use Rattle.ts_question.specs.Question.{Asked}
-use Rattle.ts_question.specs.Reply.{Answered}
+use Rattle.ts_question.specs.Question.{StoreQuestion}
+use Rattle.ts_question.specs.Reply.{NumberedReply}
 use Rattle.ts_node.specs.declared.input.Input.{Input}
 use Rattle.ts_node.specs.declared.input.Input.TheVariants as inputs
 use Rattle.ts_node.specs.declared.input.Output.{Output}
-use Rattle.ts_node.specs.declared.input.NodeFault.{NodeFault}
+use Rattle.ts_synod.specs.declared.fault.NodeFault.{NodeFault}
 use Rattle.ts_node.specs.declared.node.Node.{Node}
-use Rattle.ts_node.specs.declared.turn.Staged.{Staged}
+use Rattle.ts_node.specs.declared.turn.StagedFacts.{StagedFacts}
 use Rattle.ts_node.specs.Ahead.{IsAhead, IsKept, IsStage}
 use Rattle.ts_node.specs.Call.{IsCall}
 use Rattle.ts_node.specs.Node.{IsSound, is_broken}
 use Rattle.ts_store.specs.Octets.{octets_of}
-use Rattle.ts_wire.specs.declared.fault.NodeFault.TheVariants.{Memory}
+use Rattle.ts_synod.specs.declared.fault.NodeFault.TheVariants.{Memory}
 use Rattle.ts_wire.specs.declared.frame.Frame.{Frame}
 use Rattle.ts_wire.specs.declared.frame.Frame.TheVariants as frames
 use Rattle.ts_serve.specs.declared.server.Server.{Server}
@@ -33,7 +33,7 @@ IsReport other = ⊥
 -- A server can take a request, so that what the node keeps is on disk; or, where it is staged, so
 -- that it waits. Those that wait are these.
 abbrev pub IsReady : {D M : Type 0} → (D → State) → (M → List Command) → Bool → Node D Command M
-    → Staged Command → Type 0
+    → StagedFacts Command → Type 0
 IsReady state commands false node waiting = IsSound state octets_of commands node
 IsReady state commands true node waiting = IsAhead state octets_of commands node waiting
 
@@ -44,15 +44,16 @@ pub record IsSettled {D M : Type 0} (server : Server D M) : Type 0 where
 
 module _ {D M : Type 0} where
   -- the outbox's messages are given, and their count; the outbox is empty
-  pub record Given (old : Server D M) (replies : List Frame) (new : Server D M) : Type 0 where
-    pub said : replies ≡ map frames.Peer old.outbox ++ frames.Done (length old.outbox) ∷ []
-    pub outbox : new.outbox ≡ []
-    pub node : new.node ≡ old.node
-    pub staged : new.staged ≡ old.staged
-    pub failed : new.failed ≡ old.failed
+  pub record GivesMessages (old : Server D M) (replies : List Frame) (new : Server D M) : Type 0
+    where
+      pub said : replies ≡ map frames.Peer old.outbox ++ frames.Done (length old.outbox) ∷ []
+      pub outbox : new.outbox ≡ []
+      pub node : new.node ≡ old.node
+      pub staged : new.staged ≡ old.staged
+      pub failed : new.failed ≡ old.failed
 
   -- which node of which group it is, as its record has it, is answered; nothing changes
-  pub record Identified (old : Server D M) (replies : List Frame) (new : Server D M) : Type 0 where
+  pub record Identifies (old : Server D M) (replies : List Frame) (new : Server D M) : Type 0 where
     pub said : replies ≡ frames.Identity old.node.kept.node old.node.kept.nodes
         old.node.kept.group ∷ []
     pub same : new ≡ old
@@ -66,12 +67,13 @@ module _ {D M : Type 0} where
 
 -- The disks of a node, the store of the world, and what its machine's answers rest on (`ts_node`).
 module _ {D M B : Type 0} (state : D → State)
-    (store : Store Command Outcome (List Command) Asked (List Command)) (basis : M → B)
-    (is_answer : B → List Command → Asked → Answered → Type 0) where
+    (store : Store Command Outcome (List Command) StoreQuestion (List Command)) (basis : M → B)
+    (is_answer : B → List Command → StoreQuestion → NumberedReply → Type 0) where
   -- The node takes the input; or, where it is staged, it takes it in memory, with the messages to
   -- itself that follow from it, and what it keeps waits.
-  abbrev pub Hands : Bool → Node D Command M → Staged Command → Input Command Asked
-      → Result (Output Command Outcome Answered) NodeFault → Node D Command M → Staged Command
+  abbrev pub Hands : Bool → Node D Command M → StagedFacts Command → Input Command StoreQuestion
+      → Result (Output Command Outcome NumberedReply) NodeFault → Node D Command M → StagedFacts
+      Command
       → Type 0
   Hands false old waiting input result new after =
       IsCall state octets_of store basis is_answer old input result new × (after ≡ waiting)
@@ -81,9 +83,9 @@ module _ {D M B : Type 0} (state : D → State)
 
   -- The node takes the input. Its reply is the answer, and the messages that it gives go after
   -- those in the outbox, of which the first 256 stay. Whether the node broke is remembered.
-  pub record Handled (staged : Bool) (old : Server D M) (input : Input Command Asked)
+  pub record HandlesInput (staged : Bool) (old : Server D M) (input : Input Command StoreQuestion)
       (replies : List Frame) (new : Server D M) : Type 0 where
-    pub result : Result (Output Command Outcome Answered) NodeFault
+    pub result : Result (Output Command Outcome NumberedReply) NodeFault
     pub call : Hands staged old.node old.staged input result new.node new.staged
     pub said : replies ≡ answer_to result ∷ []
     pub outbox : new.outbox ≡ take 256 (old.outbox ++ messages_of result)
@@ -92,24 +94,24 @@ module _ {D M B : Type 0} (state : D → State)
   -- What a server answers to each request, and the server then. Other frames are no requests.
   abbrev pub TurnBy : Bool → Server D M → Frame → List Frame → Server D M → Type 0
   TurnBy staged old (frames.Peer message) replies new =
-      Handled staged old (inputs.Deliver message) replies new
+      HandlesInput staged old (inputs.Deliver message) replies new
   TurnBy staged old (frames.Submit command) replies new =
-      Handled staged old (inputs.Submit command) replies new
+      HandlesInput staged old (inputs.Submit command) replies new
   TurnBy staged old (frames.Question question) replies new =
-      Handled staged old (inputs.Ask question.terms.k question) replies new
-  TurnBy staged old frames.Take replies new = Given old replies new
+      HandlesInput staged old (inputs.Ask question.terms.k question) replies new
+  TurnBy staged old frames.Take replies new = GivesMessages old replies new
   TurnBy staged old (frames.Outcome id) replies new =
-      Handled staged old (inputs.Outcome id) replies new
-  TurnBy staged old frames.CatchUp replies new = Handled staged old inputs.CatchUp replies new
-  TurnBy staged old frames.Status replies new = Handled staged old inputs.Status replies new
-  TurnBy staged old frames.Compact replies new = Handled staged old inputs.Compact replies new
-  TurnBy staged old frames.Identify replies new = Identified old replies new
+      HandlesInput staged old (inputs.Outcome id) replies new
+  TurnBy staged old frames.CatchUp replies new = HandlesInput staged old inputs.CatchUp replies new
+  TurnBy staged old frames.Status replies new = HandlesInput staged old inputs.Status replies new
+  TurnBy staged old frames.Compact replies new = HandlesInput staged old inputs.Compact replies new
+  TurnBy staged old frames.Identify replies new = Identifies old replies new
   TurnBy staged old frames.Report replies new = HasReported old replies new
   TurnBy staged old other replies new = ⊥
 
   -- what the node keeps is on disk then
-  abbrev pub Turn : Server D M → Frame → List Frame → Server D M → Type 0
-  Turn old frame replies new = TurnBy false old frame replies new
+  abbrev pub ServerTurn : Server D M → Frame → List Frame → Server D M → Type 0
+  ServerTurn old frame replies new = TurnBy false old frame replies new
 
   -- what the node keeps waits
   abbrev pub StagedTurn : Server D M → Frame → List Frame → Server D M → Type 0

@@ -1,15 +1,15 @@
 //! One frame is answered, in octets that are handed on later.
 
 ghost use Rattle.std.specs.Prelude.{◌≡◌, Some, IfOk};
-ghost use Rattle.ts_question.specs.Question.{Asked};
+ghost use Rattle.ts_question.specs.Question.{StoreQuestion};
 ghost use Rattle.ts_node.specs.Machine.{store_of};
 ghost use Rattle.ts_node.specs.Ahead.{IsAhead};
 ghost use Rattle.ts_node.specs.Node.{IsSound};
 ghost use Rattle.ts_store.specs.Octets.{octets_of as command_octets};
-ghost use Rattle.ts_wire.specs.Frames.{Fits};
+ghost use Rattle.ts_wire.specs.Frames.{FrameFits};
 ghost use Rattle.ts_serve.specs.Requests.{is_request};
 ghost use Rattle.ts_serve.specs.Text.{fault_frames, text};
-ghost use Rattle.ts_serve.specs.Turn.{IsReady, StagedTurn, Turn, TurnBy};
+ghost use Rattle.ts_serve.specs.Turn.{IsReady, StagedTurn, ServerTurn, TurnBy};
 ghost use Rattle.ts_serve.specs.Answering.{AnswersFrame};
 
 use crate::sending::octets_of;
@@ -58,7 +58,9 @@ pub fn refusal(alloc: Global, fault: FrameFault) -> Result<Vec<u8>, AllocError>
     ensures { IfOk result (λ octets. octets.items ≡ text (fault_frames (Some fault))) }
 {
     let frame = Frame::FrameFault { fault };
-    match octets_of(alloc, &frame) {
+    let octets = octets_of(alloc, &frame);
+    drop(frame);
+    match octets {
         Ok(octets) => Ok(octets),
         Err(_) => Err(AllocError),
     }
@@ -71,13 +73,15 @@ impl<D: Disk, M: Machine<Command, Outcome = Outcome, Question = Question, Answer
     /// The text of the answers to one frame.
     fn text_of(&mut self, staged: bool, frame: Frame) -> Result<Vec<u8>, AnswerFault>
         requires ready { IsReady D.state M.commands staged self.old.node self.old.staged }
-        requires fits { Fits frame }
+        requires fits { FrameFits frame }
         ensures answers { AnswersFrame (TurnBy D.state
-            (store_of Asked M.client_id M.outcome) M.basis M.is_answer staged) self.old frame
+            (store_of StoreQuestion M.client_id M.outcome) M.basis M.is_answer staged) self.old
+            frame
             result self.new }
         ensures ready { IsReady D.state M.commands staged self.new.node self.new.staged }
     {
         if !is_request(&frame) {
+            drop(frame);
             return Err(AnswerFault::NoRequest);
         }
         let mut octets = Vec::new(self.allocator());
@@ -94,9 +98,9 @@ impl<D: Disk, M: Machine<Command, Outcome = Outcome, Question = Question, Answer
     /// `NoRequest` where the frame is no request; `Memory` where the answers are lost.
     pub fn answer_frame(&mut self, frame: Frame) -> Result<Vec<u8>, AnswerFault>
         requires sound { IsSound D.state command_octets M.commands self.old.node }
-        requires fits { Fits frame }
-        ensures answers { AnswersFrame (Turn D.state
-            (store_of Asked M.client_id M.outcome) M.basis M.is_answer) self.old frame
+        requires fits { FrameFits frame }
+        ensures answers { AnswersFrame (ServerTurn D.state
+            (store_of StoreQuestion M.client_id M.outcome) M.basis M.is_answer) self.old frame
             result self.new }
         ensures sound { IsSound D.state command_octets M.commands self.new.node }
     {
@@ -111,9 +115,9 @@ impl<D: Disk, M: Machine<Command, Outcome = Outcome, Question = Question, Answer
     /// As those of `answer_frame`.
     pub fn stage_frame(&mut self, frame: Frame) -> Result<Vec<u8>, AnswerFault>
         requires ahead { IsAhead D.state command_octets M.commands self.old.node self.old.staged }
-        requires fits { Fits frame }
+        requires fits { FrameFits frame }
         ensures answers { AnswersFrame (StagedTurn D.state
-            (store_of Asked M.client_id M.outcome) M.basis M.is_answer) self.old frame
+            (store_of StoreQuestion M.client_id M.outcome) M.basis M.is_answer) self.old frame
             result self.new }
         ensures ahead { IsAhead D.state command_octets M.commands self.new.node self.new.staged }
     {

@@ -1,9 +1,9 @@
 //! Messages are carried between servers.
 
 ghost use Rattle.std.specs.Prelude.{◌≡◌, ◌↔◌, All, IfOk, IfSome, IsTrue};
-ghost use Rattle.ts_serve.specs.Carrying.{IsDelivered, IsGiven, is_message};
+ghost use Rattle.ts_serve.specs.inside.Carrying.{IsDelivered, IsGiven, is_message};
 ghost use Rattle.std.specs.List.{flat_map, list_all, AllByRecursion};
-ghost use Rattle.ts_wire.specs.Frames.{Fits, encoding};
+ghost use Rattle.ts_wire.specs.Frames.{FrameFits, frame_encoding};
 
 use crate::outbox::MAX_WAITING;
 use crate::peer::Peer;
@@ -16,8 +16,8 @@ const TAKE: [u8; 6] = [0, 0, 0, 2, 2, 0x12];
 /// The frames that octets are, if they are frames, one after another, and nothing else.
 fn frames_of(alloc: Global, octets: &[u8]) -> Result<Option<Vec<Frame>>, AllocError>
     ensures { IfOk result (λ found. IfSome found
-        (λ frames. (octets.now ≡ flat_map encoding frames.items)
-        × AllByRecursion Fits frames.items)) }
+        (λ frames. (octets.now ≡ flat_map frame_encoding frames.items)
+        × AllByRecursion FrameFits frames.items)) }
 {
     let mut feed = Feed::new(alloc);
     feed.push(octets)?;
@@ -72,7 +72,7 @@ fn take_from<P: Peer>(alloc: Global, peer: &mut P) -> Result<Vec<Frame>, AllocEr
     if let Ok(answer) = peer.exchange(&TAKE) {
         if let Some(mut frames) = frames_of(alloc, &answer)? {
             if is_given(&frames) {
-                let _count = frames.pop();
+                drop(frames.pop());
                 return Ok(frames);
             }
         }

@@ -1,12 +1,12 @@
 //! Connections are served, one after the other.
 
 ghost use Rattle.std.specs.Prelude.{◌≡◌, List, IfErr};
-ghost use Rattle.ts_question.specs.Question.{Asked};
+ghost use Rattle.ts_question.specs.Question.{StoreQuestion};
 ghost use Rattle.ts_node.specs.Machine.{store_of};
 ghost use Rattle.ts_node.specs.Node.{IsSound};
 ghost use Rattle.ts_store.specs.Octets.{octets_of};
 ghost use Rattle.ts_wire.specs.declared.frame.Frame.{Frame as Request};
-ghost use Rattle.ts_serve.specs.Turn.{Turn};
+ghost use Rattle.ts_serve.specs.Turn.{ServerTurn};
 ghost use Rattle.ts_serve.specs.Stream.{Run};
 
 use crate::connection::set_up;
@@ -28,7 +28,8 @@ where
     M: Machine<Command, Outcome = Outcome, Question = Question, Answer = Answer>,
     requires { IsSound D.state octets_of M.commands server.old.node }
     ensures run { (requests answers : List Request)
-        × Run (Turn D.state (store_of Asked M.client_id M.outcome) M.basis M.is_answer) server.old
+        × Run (ServerTurn D.state (store_of StoreQuestion M.client_id M.outcome) M.basis
+        M.is_answer) server.old
         requests answers server.new }
     ensures sound { IsSound D.state octets_of M.commands server.new.node }
 {
@@ -61,7 +62,8 @@ where
     ensures fault { IfErr result (λ fault. fault ≡ ServeFault.Read) }
     // Whatever comes, the server has answered some requests, one after another.
     ensures run { (requests answers : List Request)
-        × Run (Turn D.state (store_of Asked M.client_id M.outcome) M.basis M.is_answer) server.old
+        × Run (ServerTurn D.state (store_of StoreQuestion M.client_id M.outcome) M.basis
+        M.is_answer) server.old
         requests answers server.new }
     ensures sound { IsSound D.state octets_of M.commands server.new.node }
 {

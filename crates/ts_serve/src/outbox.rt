@@ -2,7 +2,7 @@
 
 ghost use Rattle.std.specs.Prelude.{◌≡◌, ◌≤◌, ◌++◌, ◌∷◌, [], map, take, length, IfOk};
 ghost use Rattle.ts_wire.specs.declared.frame.Frame.TheVariants.{Peer};
-ghost use Rattle.ts_serve.specs.Outbox.{IsOutbox};
+ghost use Rattle.ts_serve.specs.inside.Outbox.{IsOutbox};
 
 use std::alloc::{AllocError, Global};
 use std::marker::Model;
@@ -27,7 +27,7 @@ impl Model for Outbox {
 
     ghost Value = { List (Message Command) };
 
-    ghost use Rattle.ts_serve.specs.Outbox.{messages_in, IsOutbox};
+    ghost use Rattle.ts_serve.specs.inside.Outbox.{messages_in, IsOutbox};
 
     ghost view = { λ o. messages_in o.frames.items };
 
@@ -43,6 +43,8 @@ fn put_one(frames: &mut Vec<Frame>, message: Message<Command>)
     let frame = Frame::Peer(message);
     if frames.len() < MAX_WAITING {
         frames.push_reserved(frame);
+    } else {
+        drop(frame);
     }
 }
 

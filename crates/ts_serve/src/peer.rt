@@ -1,11 +1,11 @@
 //! Peers: what answers a stream of requests.
 
 ghost use Rattle.std.specs.Prelude.{◌≡◌, ◌++◌, List, ℕ, Some, [], IfOk, IfSome};
-ghost use Rattle.ts_question.specs.Question.{Asked};
+ghost use Rattle.ts_question.specs.Question.{StoreQuestion};
 ghost use Rattle.ts_node.specs.Machine.{store_of};
 ghost use Rattle.ts_node.specs.Node.{IsSound};
 ghost use Rattle.ts_store.specs.Octets.{octets_of};
-ghost use Rattle.ts_serve.specs.Turn.{Turn};
+ghost use Rattle.ts_serve.specs.Turn.{ServerTurn};
 ghost use Rattle.ts_serve.specs.Stream.{IsServedSomehow};
 
 use crate::connection::{connect, set_up};
@@ -138,7 +138,8 @@ impl<D: Disk, M: Machine<Command, Outcome = Outcome, Question = Question, Answer
         requires { IsSound D.state octets_of M.commands self.old.server.node }
         ensures ready { IsSound D.state octets_of M.commands self.new.server.node }
         ensures served { IfOk result (λ answers. IsServedSomehow
-            (Turn D.state (store_of Asked M.client_id M.outcome) M.basis M.is_answer) octets.now
+            (ServerTurn D.state (store_of StoreQuestion M.client_id M.outcome) M.basis M.is_answer)
+            octets.now
             self.old.server self.new.server answers.items) }
     {
         let mut reader = octets;

@@ -1,39 +1,24 @@
 //! A node's replies and faults as frames.
 
 ghost use Rattle.std.specs.Prelude.{◌≡◌, ◌≤◌, ◌<◌, ◌||◌, IfOk};
-ghost use Rattle.ts_question.specs.Reply.{answered};
+ghost use Rattle.ts_question.specs.Reply.{numbered_reply};
 ghost use Rattle.ts_question.specs.declared.reply.Reply.TheVariants.{NotYet};
 ghost use Rattle.ts_wire.specs.declared.frame.Frame.TheVariants.{Answer as AnswerFrame};
 ghost use Rattle.ts_serve.specs.Replies.{HasFrame, answer_to, is_failure, messages_of, reply_frame};
-ghost use Rattle.ts_serve.specs.Replies.{wire_fault};
 
 use std::alloc::Global;
-use ts_node::{NodeFault, Output, Reply};
+use ts_node::{Output, Reply};
 use ts_question::{Answer, Reply as Said};
 use ts_record::Progress;
 use ts_store::{Command, Outcome};
-use ts_synod::Message;
-use ts_wire::{Frame, NodeFault as WireFault};
-
-/// A node's fault, in the form that a frame carries.
-fn fault_in_frame(fault: NodeFault) -> WireFault
-    ensures { result ≡ wire_fault fault }
-{
-    match fault {
-        NodeFault::Memory => WireFault::Memory,
-        NodeFault::DiskFailed => WireFault::DiskFailed,
-        NodeFault::Broken => WireFault::Broken,
-        NodeFault::RoundsExhausted => WireFault::RoundsExhausted,
-        NodeFault::PositionsExhausted => WireFault::PositionsExhausted,
-        NodeFault::GenerationsExhausted => WireFault::GenerationsExhausted,
-    }
-}
+use ts_synod::{Message, NodeFault};
+use ts_wire::Frame;
 
 /// The answer that only so many commands are known.
 fn not_yet(k: u32, prefix: u32) -> Frame
     requires k { k ≤ 1000000 }
     requires prefix { prefix < k }
-    ensures { result ≡ AnswerFrame (answered k (NotYet prefix)) }
+    ensures { result ≡ AnswerFrame (numbered_reply k (NotYet prefix)) }
 {
     match Answer::new(k, Said::NotYet { prefix }) {
         Ok(answer) => Frame::Answer { answer },
@@ -80,11 +65,6 @@ pub(crate) fn answer_of(
 {
     match called {
         Ok(output) => (frame_of(output.reply), output.messages),
-        Err(fault) => {
-            let frame = Frame::NodeFault {
-                fault: fault_in_frame(fault),
-            };
-            (frame, Vec::new(alloc))
-        }
+        Err(fault) => (Frame::NodeFault { fault }, Vec::new(alloc)),
     }
 }

@@ -3,18 +3,19 @@
 ghost use Rattle.std.specs.Prelude.{◌≡◌, ◌++◌, ◌∷◌, [], ◌⊎◌, OnOk, OnErr, IfOk, IfErr};
 ghost use Rattle.std.specs.Io.KnownBytes.{Appends, Keeps};
 ghost use Rattle.ts_wire.specs.declared.frame.Frame.TheVariants.{Done};
-ghost use Rattle.ts_serve.specs.Text.{AppendsFront, text, written};
-ghost use Rattle.ts_serve.specs.Steps.{Refuses};
+ghost use Rattle.ts_serve.specs.Text.{AppendsFront, text, frame_text};
+ghost use Rattle.ts_serve.specs.inside.Steps.{Refuses};
 
 use crate::fault::ServeFault;
 use crate::serving::READ_LIMIT;
 use std::alloc::Global;
 use std::io::{ErrorKind, Write};
-use ts_wire::{Frame, FrameFault, NodeFault, WriteError, write_frame};
+use ts_synod::NodeFault;
+use ts_wire::{Frame, FrameFault, WriteError, write_frame};
 
 /// The octets of an answer.
 pub(crate) fn octets_of(alloc: Global, frame: &Frame) -> Result<Vec<u8>, ServeFault>
-    ensures octets { IfOk result (λ octets. octets.items ≡ written frame.now) }
+    ensures octets { IfOk result (λ octets. octets.items ≡ frame_text frame.now) }
     ensures fault { IfErr result (λ fault. fault ≡ ServeFault.Memory) }
 {
     let mut octets = Vec::new(alloc);
@@ -26,7 +27,9 @@ pub(crate) fn octets_of(alloc: Global, frame: &Frame) -> Result<Vec<u8>, ServeFa
     let fault = Frame::NodeFault {
         fault: NodeFault::Memory,
     };
-    match write_frame(alloc, &mut octets, &fault) {
+    let refused = write_frame(alloc, &mut octets, &fault);
+    drop(fault);
+    match refused {
         Ok(()) => Ok(octets),
         Err(_) => Err(ServeFault::Memory),
     }
@@ -77,7 +80,9 @@ pub(crate) fn send<W: Write>(alloc: Global, writer: &mut W, frame: Frame) -> Res
     ensures fault { IfErr result (λ fault. (fault ≡ ServeFault.Write)
         ⊎ (fault ≡ ServeFault.Memory)) }
 {
-    send_lent(alloc, writer, &frame)
+    let sent = send_lent(alloc, writer, &frame);
+    drop(frame);
+    sent
 }
 
 /// Writes answers, one after another.

@@ -3,18 +3,19 @@
 ghost use Rattle.std.specs.Prelude.{◌≡◌, ◌∷◌, ◌++◌, [], false, true, map, OnOk, OnErr};
 ghost use Rattle.std.specs.Prelude.{IfOk, MatchResult};
 ghost use Rattle.std.specs.Io.KnownBytes.{Appends};
-ghost use Rattle.ts_question.specs.Question.{Asked};
+ghost use Rattle.ts_question.specs.Question.{StoreQuestion};
 ghost use Rattle.ts_node.specs.Machine.{store_of};
 ghost use Rattle.ts_node.specs.Inputs.{InputFits};
 ghost use Rattle.ts_node.specs.Ahead.{IsAhead};
 ghost use Rattle.ts_node.specs.Node.{IsSound};
 ghost use Rattle.ts_store.specs.Octets.{octets_of};
-ghost use Rattle.ts_wire.specs.Frames.{Fits};
+ghost use Rattle.ts_wire.specs.Frames.{FrameFits};
 ghost use Rattle.ts_wire.specs.declared.frame.Frame.TheVariants.{Take};
 ghost use Rattle.ts_serve.specs.Replies.{IsWithin};
-ghost use Rattle.ts_serve.specs.Turn.{Given, Handled, Hands, HasKept, HasReported, Identified};
+ghost use Rattle.ts_serve.specs.Turn.{GivesMessages, HandlesInput, Hands, HasKept, HasReported};
+ghost use Rattle.ts_serve.specs.Turn.{Identifies};
 ghost use Rattle.ts_serve.specs.Turn.{IsReady, IsReport, IsSettled, TurnBy};
-ghost use Rattle.ts_serve.specs.Steps.{Answers, Refuses, Says};
+ghost use Rattle.ts_serve.specs.inside.Steps.{Answers, Refuses, Says};
 
 use crate::fault::ServeFault;
 use crate::notes::Notes;
@@ -25,11 +26,12 @@ use std::alloc::{AllocError, Global};
 use std::cell::RefCell;
 use std::io::Write;
 use ts_disk::Disk;
-use ts_node::{Identity, Input, Machine, Node, NodeFault, Output, Staged};
+use ts_node::{Identity, Input, Machine, Node, Output, StagedFacts};
 use ts_octets::Octets;
 use ts_question::{Answer, Question};
 use ts_store::{Command, Outcome};
-use ts_wire::{Feed, Frame, FrameFault, NodeFault as WireFault};
+use ts_synod::NodeFault;
+use ts_wire::{Feed, Frame, FrameFault};
 
 /// A node, and the messages of it that wait to be taken, at most 256.
 #[derive(Drop)]
@@ -37,7 +39,7 @@ pub struct Server<D: Disk, M> {
     alloc: Global,
     node: Node<D, Command, M>,
     /// What the node has taken in memory, and is not kept yet.
-    staged: Staged<Command>,
+    staged: StagedFacts<Command>,
     outbox: Outbox,
     /// Whether the node broke.
     failed: bool,
@@ -59,7 +61,7 @@ fn ask(question: Question) -> Input<Command, Question>
 /// itself that follow from it, and what it keeps waits.
 fn call<D, M>(
     node: &mut Node<D, Command, M>,
-    waiting: &mut Staged<Command>,
+    waiting: &mut StagedFacts<Command>,
     staged: bool,
     input: &Input<Command, Question>,
 ) -> Result<Output<Command, Outcome, Answer>, NodeFault>
@@ -68,7 +70,7 @@ where
     M: Machine<Command, Outcome = Outcome, Question = Question, Answer = Answer>,
     requires ready { IsReady D.state M.commands staged node.old waiting.old }
     requires fits { InputFits octets_of input.now }
-    ensures hands { Hands D.state (store_of Asked M.client_id M.outcome) M.basis M.is_answer
+    ensures hands { Hands D.state (store_of StoreQuestion M.client_id M.outcome) M.basis M.is_answer
         staged node.old waiting.old input.now result node.new waiting.new }
     ensures ready { IsReady D.state M.commands staged node.new waiting.new }
 {
@@ -101,7 +103,7 @@ impl<D: Disk, M: Machine<Command, Outcome = Outcome, Question = Question, Answer
             Ok(outbox) => Ok(Server {
                 alloc,
                 node,
-                staged: Staged::empty(alloc),
+                staged: StagedFacts::empty(alloc),
                 outbox,
                 failed: false,
                 notes: RefCell::new(Notes { text: None }),
@@ -133,8 +135,8 @@ impl<D: Disk, M: Machine<Command, Outcome = Outcome, Question = Question, Answer
         self.failed
     }
 
-    /// Keeps, by one append, what the node has taken in memory: what was answered since the last time
-    /// may leave then. `false` where the node broke, and nothing of that may leave.
+    /// Keeps, by one append, what the node has taken in memory: what was answered since the last
+    /// time may leave then. `false` where the node broke, and nothing of that may leave.
     pub fn keep_staged(&mut self) -> bool
         requires ahead { IsAhead D.state octets_of M.commands self.old.node self.old.staged }
         ensures kept { HasKept D.state self.old self.new }
@@ -167,7 +169,7 @@ impl<D: Disk, M: Machine<Command, Outcome = Outcome, Question = Question, Answer
     }
 
     /// The text about the server: an empty one where it was given none.
-    fn noted(&self) -> Result<Octets, AllocError> {
+    fn report_text(&self) -> Result<Octets, AllocError> {
         // Nobody else borrows it while this call runs.
         if let Ok(notes) = self.notes.try_borrow() {
             if let Some(text) = &notes.text {
@@ -181,10 +183,10 @@ impl<D: Disk, M: Machine<Command, Outcome = Outcome, Question = Question, Answer
     fn report_frame(&self) -> Frame
         ensures { IsReport result }
     {
-        match self.noted() {
+        match self.report_text() {
             Ok(text) => Frame::Reported { text },
             Err(_) => Frame::NodeFault {
-                fault: WireFault::Memory,
+                fault: NodeFault::Memory,
             },
         }
     }
@@ -213,8 +215,9 @@ impl<D: Disk, M: Machine<Command, Outcome = Outcome, Question = Question, Answer
         requires ready { IsReady D.state M.commands staged self.old.node self.old.staged }
         requires fits { InputFits octets_of input.now }
         requires within { IsWithin input.now }
-        ensures handled { Handled D.state
-            (store_of Asked M.client_id M.outcome) M.basis M.is_answer staged self.old input.now
+        ensures handled { HandlesInput D.state
+            (store_of StoreQuestion M.client_id M.outcome) M.basis M.is_answer staged self.old
+            input.now
             (result ∷ []) self.new }
         ensures ready { IsReady D.state M.commands staged self.new.node self.new.staged }
         ensures alloc { self.new.alloc ≡ self.old.alloc }
@@ -236,18 +239,20 @@ impl<D: Disk, M: Machine<Command, Outcome = Outcome, Question = Question, Answer
         requires ready { IsReady D.state M.commands staged self.old.node self.old.staged }
         requires fits { InputFits octets_of input }
         requires within { IsWithin input }
-        ensures said { Says (Handled D.state
-            (store_of Asked M.client_id M.outcome) M.basis M.is_answer staged self.old input)
+        ensures said { Says (HandlesInput D.state
+            (store_of StoreQuestion M.client_id M.outcome) M.basis M.is_answer staged self.old
+            input)
             (W.contents writer.old) result self.new (W.contents writer.new) }
         ensures ready { IsReady D.state M.commands staged self.new.node self.new.staged }
     {
         let frame = self.handle(staged, &input);
+        drop(input);
         send(self.alloc, writer, frame)
     }
 
     /// Writes the messages that wait, and their count. None waits then.
     fn give<W: Write>(&mut self, writer: &mut W) -> Result<(), ServeFault>
-        ensures said { Says (Given self.old) (W.contents writer.old) result self.new
+        ensures said { Says (GivesMessages self.old) (W.contents writer.old) result self.new
             (W.contents writer.new) }
         ensures node { self.new.node ≡ self.old.node }
         ensures staged { self.new.staged ≡ self.old.staged }
@@ -262,7 +267,7 @@ impl<D: Disk, M: Machine<Command, Outcome = Outcome, Question = Question, Answer
 
     /// Writes which node of which group it is.
     fn identify<W: Write>(&self, writer: &mut W) -> Result<(), ServeFault>
-        ensures said { Says (Identified self.now) (W.contents writer.old) result self.now
+        ensures said { Says (Identifies self.now) (W.contents writer.old) result self.now
             (W.contents writer.new) }
     {
         let identity = self.identity();
@@ -291,9 +296,10 @@ impl<D: Disk, M: Machine<Command, Outcome = Outcome, Question = Question, Answer
         writer: &mut W,
     ) -> Result<(), ServeFault>
         requires ready { IsReady D.state M.commands staged self.old.node self.old.staged }
-        requires fits { Fits frame }
+        requires fits { FrameFits frame }
         ensures answers { Answers (TurnBy D.state
-            (store_of Asked M.client_id M.outcome) M.basis M.is_answer staged) self.old frame
+            (store_of StoreQuestion M.client_id M.outcome) M.basis M.is_answer staged) self.old
+            frame
             (W.contents writer.old) result self.new (W.contents writer.new) }
         ensures ready { IsReady D.state M.commands staged self.new.node self.new.staged }
     {

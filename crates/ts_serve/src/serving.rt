@@ -1,16 +1,16 @@
 //! A stream of requests is answered.
 
 ghost use Rattle.std.specs.Prelude.{◌≡◌, ◌≢◌, List, Option, [], IfSome, IfErr, OnOk};
-ghost use Rattle.ts_question.specs.Question.{Asked};
+ghost use Rattle.ts_question.specs.Question.{StoreQuestion};
 ghost use Rattle.ts_node.specs.Machine.{store_of};
 ghost use Rattle.ts_node.specs.Node.{IsSound};
 ghost use Rattle.ts_store.specs.Octets.{octets_of};
 ghost use Rattle.ts_wire.specs.Stream.{IsPartial, Splits};
 ghost use Rattle.ts_wire.specs.declared.fault.FrameFault.{FrameFault};
 ghost use Rattle.ts_wire.specs.declared.frame.Frame.{Frame as Request};
-ghost use Rattle.ts_serve.specs.Turn.{Turn};
+ghost use Rattle.ts_serve.specs.Turn.{ServerTurn};
 ghost use Rattle.ts_serve.specs.Stream.{IsAnswered, IsServed, Run};
-ghost use Rattle.ts_serve.specs.Steps.{Drains, Reads, Serves};
+ghost use Rattle.ts_serve.specs.inside.Steps.{Drains, Reads, Serves};
 
 use crate::fault::ServeFault;
 use crate::sending::{flush, refuse};
@@ -39,8 +39,8 @@ where
     M: Machine<Command, Outcome = Outcome, Question = Question, Answer = Answer>,
     W: Write,
     requires { IsSound D.state octets_of M.commands server.old.node }
-    ensures drains { Drains (Turn D.state
-        (store_of Asked M.client_id M.outcome) M.basis M.is_answer) feed.old server.old
+    ensures drains { Drains (ServerTurn D.state
+        (store_of StoreQuestion M.client_id M.outcome) M.basis M.is_answer) feed.old server.old
         (W.contents writer.old) result server.new feed.new (W.contents writer.new) }
     ensures sound { IsSound D.state octets_of M.commands server.new.node }
 {
@@ -69,7 +69,8 @@ where
     W: Write,
     requires sound { IsSound D.state octets_of M.commands server.old.node }
     requires partial { IsPartial feed.old }
-    ensures reads { Reads (Turn D.state (store_of Asked M.client_id M.outcome) M.basis M.is_answer)
+    ensures reads { Reads (ServerTurn D.state (store_of StoreQuestion M.client_id M.outcome) M.basis
+        M.is_answer)
         (R.remaining reader.old) (R.remaining reader.new)
         feed.old server.old (W.contents writer.old) result server.new feed.new
         (W.contents writer.new) }
@@ -100,8 +101,8 @@ where
     R: Read,
     W: Write,
     requires { IsSound D.state octets_of M.commands server.old.node }
-    ensures serves { Serves (Turn D.state
-        (store_of Asked M.client_id M.outcome) M.basis M.is_answer)
+    ensures serves { Serves (ServerTurn D.state
+        (store_of StoreQuestion M.client_id M.outcome) M.basis M.is_answer)
         (R.remaining reader.old) server.old (W.contents writer.old)
         result (R.remaining reader.new) server.new (W.contents writer.new) }
     ensures sound { IsSound D.state octets_of M.commands server.new.node }
@@ -153,19 +154,21 @@ where
     // Where the reader tells its octets: what is written is the text of the answers to the stream's
     // requests, and nothing else.
     ensures served { IfSome (R.remaining reader.old)
-        (λ stream. IsServed (Turn D.state
-        (store_of Asked M.client_id M.outcome) M.basis M.is_answer) stream
+        (λ stream. IsServed (ServerTurn D.state
+        (store_of StoreQuestion M.client_id M.outcome) M.basis M.is_answer) stream
         server.old (W.contents writer.old) result server.new (W.contents writer.new)) }
     // Those are the requests among the frames that the stream splits into.
     ensures exact { IfSome (R.remaining reader.old)
         (λ stream. (frames : List Request) (fault : Option FrameFault)
         → Splits stream frames fault
-        → IsAnswered (Turn D.state (store_of Asked M.client_id M.outcome) M.basis M.is_answer)
+        → IsAnswered (ServerTurn D.state (store_of StoreQuestion M.client_id M.outcome) M.basis
+        M.is_answer)
         frames fault server.old (W.contents writer.old) result server.new
         (W.contents writer.new)) }
     // Whatever is read, the server has answered some requests, one after another.
     ensures run { (requests answers : List Request)
-        × Run (Turn D.state (store_of Asked M.client_id M.outcome) M.basis M.is_answer) server.old
+        × Run (ServerTurn D.state (store_of StoreQuestion M.client_id M.outcome) M.basis
+        M.is_answer) server.old
         requests answers server.new }
     ensures sound { IsSound D.state octets_of M.commands server.new.node }
 {

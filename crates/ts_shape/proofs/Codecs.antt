@@ -55,7 +55,11 @@ items_from : {A : Type 0} (tag : ℕ) (value : Tlv → Result A Fault) (content_
     → (n : ℕ) (here : Place) (xs : List A) → length here.rest ≤ n → AreOctets here.rest → many_from n (within tag value) here ≡ Ok xs → AreItems tag content_of Good here.rest xs
 items_from tag value content_of Good codec zero here xs le fits e = no_items tag content_of Good here.rest xs (omega arith) (ok_is {E = Fault} [] xs e)
 items_from {A} tag value content_of Good codec (suc n) here xs le fits e =
-    by_end (λ x after ys r more. one x after ys r (items_from tag value content_of Good codec n after ys (let lt = within-consumes tag value here x after r in omega arith) (within-found tag value content_of Good codec here x after fits r).2 more)) (is_end here.rest) refl e
+    by_end (λ x after ys r more. one x after ys r
+    (items_from tag value content_of Good codec n after ys
+    (let lt = within-consumes tag value here x after r in omega arith)
+    (within-found tag value content_of Good codec here x after fits r).2 more))
+    (is_end here.rest) refl e
   where
     one : (x : A) (after : Place) (ys : List A) → within tag value here ≡ Ok (x, after) → AreItems tag content_of Good after.rest ys → AreItems tag content_of Good here.rest (x ∷ ys)
     one x after ys r m =
@@ -63,7 +67,9 @@ items_from {A} tag value content_of Good codec (suc n) here xs le fits e =
         record { each = (f.0, m.each); whole = f.1 ∙ ap (λ (rest : List ℕ). whole_of tag content_of x ++ rest) m.whole }
 
     by_end : ((x : A) (after : Place) (ys : List A) → within tag value here ≡ Ok (x, after) → many_from n (within tag value) after ≡ Ok ys → AreItems tag content_of Good here.rest (x ∷ ys))
-        → (b : Bool) → is_end here.rest ≡ b → cond b (Ok []) (within tag value here >>= λ x. many_from n (within tag value) x.1 >>= λ ys. Ok (x.0 ∷ ys)) ≡ Ok xs → AreItems tag content_of Good here.rest xs
+        → (b : Bool) → is_end here.rest ≡ b
+        → cond b (Ok []) (within tag value here >>= λ x. many_from n (within tag value) x.1 >>=
+        λ ys. Ok (x.0 ∷ ys)) ≡ Ok xs → AreItems tag content_of Good here.rest xs
     by_end f true t e = no_items tag content_of Good here.rest xs (omega (arith, is_end-length here.rest t)) (ok_is {E = Fault} [] xs e)
     by_end f false t e =
         let a = bind_ok (within tag value here) (λ x. many_from n (within tag value) x.1 >>= λ ys. Ok (x.0 ∷ ys)) xs e in

@@ -11,14 +11,14 @@ use Rattle.ts_der.specs.Element.{Tlv, encode}
 use Rattle.ts_der.specs.Integer.{is_shortest, integer_rules}
 use Rattle.ts_der.specs.BitString.{whole_octets_rules}
 use Rattle.ts_der.specs.ObjectIdentifier.{is_oid, oid_rules}
-use Rattle.ts_der.specs.Reading.{located, value_at}
+use Rattle.ts_der.specs.Reading.{at_element, value_at}
 use Rattle.ts_der.proofs.Laws.{ok_is}
 use Rattle.ts_shape.specs.Fields.{Within, IsOid, IsInteger, IsBits, oid_at, integer_at, bits_at}
 use Rattle.ts_shape.proofs.Parts.{Part, within-part}
 
 -- ---- values that are the content itself, where it meets a test
 
-tested : (kind : DerFault) (b : Bool) (at : ℕ) (x y : List ℕ) → located at (value_unless (cond (not b) (Some kind) None) x) ≡ Ok y → (x ≡ y) × (b ≡ true)
+tested : (kind : DerFault) (b : Bool) (at : ℕ) (x y : List ℕ) → at_element at (value_unless (cond (not b) (Some kind) None) x) ≡ Ok y → (x ≡ y) × (b ≡ true)
 tested kind true at x y e = (ok_is {E = Fault} x y e, refl)
 tested kind false at x y e = absurd cc
 
@@ -42,11 +42,11 @@ pub integer-part : Part integer_at (Within 0x02 IsInteger)
 unfolding integer_at
 integer-part = within-part 0x02 (value_at integer_rules (λ c. c)) IsInteger (record { found = integer-found; again = integer-again })
 
-bits-ok : (c : List ℕ) (at : ℕ) (x : List ℕ) → located at (value_unless (first_broken whole_octets_rules c) (drop 1 c)) ≡ Ok x → c ≡ 0 ∷ x
+bits-ok : (c : List ℕ) (at : ℕ) (x : List ℕ) → at_element at (value_unless (first_broken whole_octets_rules c) (drop 1 c)) ≡ Ok x → c ≡ 0 ∷ x
 bits-ok [] at x e = absurd cc
 bits-ok (u ∷ octets) at x e = by_test (eqb u 0) refl e
   where
-    by_test : (b : Bool) → eqb u 0 ≡ b → located at (value_unless (cond (not b) (Some BitsForm) None) octets) ≡ Ok x → u ∷ octets ≡ 0 ∷ x
+    by_test : (b : Bool) → eqb u 0 ≡ b → at_element at (value_unless (cond (not b) (Some BitsForm) None) octets) ≡ Ok x → u ∷ octets ≡ 0 ∷ x
     by_test true t e = ap (λ (v : ℕ). v ∷ octets) (eqb-true u 0 t) ∙ ap (λ (os : List ℕ). 0 ∷ os) (ok_is {E = Fault} octets x e)
     by_test false t e = absurd cc
 

@@ -1,5 +1,8 @@
 -- The first item that repeats an earlier one: what counts of the keys seen, and what it has with collisions to do.
-use Rattle.std.proofs.Common.{◌≡◌, ◌<◌, ◌≤◌, ◌+◌, ◌-◌, subst, ℕ, zero, suc, length, Bool, true, false, cond, ◌||◌, List, [], ◌∷◌, ◌++◌, take, drop, Option, Some, None, option_map, Result, Ok, Err, bytes_eq, refl, sym, ap, ◌∙◌, arith}
+use Rattle.std.proofs.Common.{◌≡◌, ◌<◌, ◌≤◌, ◌+◌, ◌-◌, subst, ℕ, zero, suc, length, Bool, true}
+use Rattle.std.proofs.Common.{false, cond, ◌||◌, List, [], ◌∷◌, ◌++◌, take, drop, Option, Some}
+use Rattle.std.proofs.Common.{None, option_map, Result, Ok, Err, bytes_eq, refl, sym, ap, ◌∙◌}
+use Rattle.std.proofs.Common.{arith}
 use Rattle.std.specs.Option.{is_some}
 use Rattle.std.proofs.lemmas.Bool.{false≢true}
 use Rattle.std.proofs.lemmas.List.{length-append, take-append-drop}
@@ -10,7 +13,7 @@ use Rattle.ts_der.specs.Element.{Place, Tlv}
 use Rattle.ts_der.specs.Reading.{is_end}
 use Rattle.ts_shape.specs.Items.{each, first_then, upto_from, items_at}
 use Rattle.ts_shape.specs.Repeats.{is_among, first_repeated}
-use Rattle.ts_shape.specs.Collisions.{AreCollisions}
+use Rattle.ts_shape.specs.inside.Collisions.{AreCollisions}
 use Rattle.ts_shape.proofs.KeyTables.{itself, some-none}
 
 if-some : {A : Type 0} (b : Bool) (x : A) (r q : Option A) → ((q ≡ None → ⊥) → r ≡ q) → (cond b (Some x) q ≡ None → ⊥) → cond b (Some x) r ≡ cond b (Some x) q
@@ -36,7 +39,9 @@ module _ {A : Type 0} (key : A → List ℕ) where
   taken xs x ys n m e some = rw (some, e) refl
 
   -- the same for the first of the items
-  pub next-new : (s : List (List ℕ)) (xs : List A) (x : A) (ys : List A) (n m : ℕ) → xs ≡ x ∷ ys → n ≡ suc m → is_among (key x) s ≡ false → first_repeated key s (take n xs) ≡ first_repeated key (key x ∷ s) (take m ys)
+  pub next-new : (s : List (List ℕ)) (xs : List A) (x : A) (ys : List A) (n m : ℕ) → xs ≡ x ∷ ys
+      → n ≡ suc m → is_among (key x) s ≡ false
+      → first_repeated key s (take n xs) ≡ first_repeated key (key x ∷ s) (take m ys)
   next-new s xs x ys n m e some new = seen-next s (take n xs) x (take m ys) (taken xs x ys n m e some) new
 
   -- the next item has a key that was seen
@@ -90,7 +95,9 @@ module _ {A : Type 0} (key : A → List ℕ) where
   no-collisions t s = tt
 
   -- one more item, whose key is in the table if it was seen
-  pub collisions-more : (t s : List (List ℕ)) (front : List A) (x : A) → AreCollisions key t s front → (is_among (key x) (seen_after s front) ≡ true → is_among (key x) t ≡ true) → AreCollisions key t s (front ++ x ∷ [])
+  pub collisions-more : (t s : List (List ℕ)) (front : List A) (x : A) → AreCollisions key t s front
+      → (is_among (key x) (seen_after s front) ≡ true → is_among (key x) t ≡ true)
+      → AreCollisions key t s (front ++ x ∷ [])
   unfolding AreCollisions
   collisions-more t s [] x a h = (h, tt)
   collisions-more t s (y ∷ front) x a h = (a.0, collisions-more t (key y ∷ s) front x a.1 h)

@@ -9,7 +9,7 @@ use Rattle.ts_der.specs.Octets.{AreOctets}
 use Rattle.ts_der.specs.Answer.{◌>>=◌, refusal}
 use Rattle.ts_der.specs.Rules.{value_unless}
 use Rattle.ts_der.specs.Element.{Place, Tlv, inside, encoded_at}
-use Rattle.ts_der.specs.Reading.{fault_at, is_end, next_at, element_at, element_of, behind, located, value_at, end_at, many_from, many}
+use Rattle.ts_der.specs.Reading.{fault_at, is_end, next_at, element_at, element_of, behind, at_element, value_at, end_at, many_from, many}
 use Rattle.ts_der.proofs.Elements.{next-found}
 use Rattle.ts_der.proofs.Laws.{bind_ok, ok_is, next-only}
 use Rattle.ts_der.proofs.Many.{Consumes, is_end-length, many-end, many-step}
@@ -64,7 +64,9 @@ pub tag-reads : {A : Type 0} (tag : ℕ) (shape : Shape) (rules : ContentRules) 
     → ((e : Tlv) → Judged (der (value e)) (judge shape (inside e) or_else option_map (breaks e.at) (rules e.content)) (P e))
     → Reads (tagged tag shape rules no_other) (λ here. der (each (of_tag tag value) here)) P
 tag-reads {A} tag shape rules value P j here =
-    subst (λ (r : Result (A × Place) Fault). Judged (der r) (header_fault here or_else row_fault (tagged tag shape rules no_other) (element_of here)) (λ x. Headed here × (x.1 ≡ behind here) × P (element_of here) x.0))
+    subst (λ (r : Result (A × Place) Fault). Judged (der r)
+    (header_fault here or_else row_fault (tagged tag shape rules no_other) (element_of here))
+    (λ x. Headed here × (x.1 ≡ behind here) × P (element_of here) x.0))
     (sym (each-tag tag value here)) (within-reads tag shape rules value P j here)
 
 -- ---- one of several forms, by the tag
@@ -194,7 +196,9 @@ items_from {A} value Encodes part (suc n) here xs le fits e =
     none [] e = refl
     none (o ∷ rest) e = absurd cc
 
-    by_end : ((x : A) (after : Place) (ys : List A) → each value here ≡ Ok (x, after) → length after.rest ≤ n → AreOctets after.rest → many_from n (each value) after ≡ Ok ys → AreItems Encodes after.rest ys)
+    by_end : ((x : A) (after : Place) (ys : List A) → each value here ≡ Ok (x, after)
+        → length after.rest ≤ n → AreOctets after.rest → many_from n (each value) after ≡ Ok ys
+        → AreItems Encodes after.rest ys)
         → (b : Bool) → is_end here.rest ≡ b → cond b (Ok []) (each value here >>= λ x. many_from n (each value) x.1 >>= λ ys. Ok (x.0 ∷ ys)) ≡ Ok xs → AreItems Encodes here.rest xs
     by_end f true t e = subst (λ (ys : List A). AreItems Encodes here.rest ys) (ok_is {E = Fault} [] xs e) (none here.rest t)
     by_end f false t e =
@@ -237,7 +241,7 @@ some-found {A} value Encodes part e xs fits read =
     let are = many-found value Encodes part (inside e) m.0 fits m.1 in
     subst (λ (ys : List A). AreSome Encodes e.content ys) same (not_none m.0 are (filled e.content s.0 s.1), are)
   where
-    filled : (c s : List ℕ) → located e.at (value_unless (cond (is_end c) (Some Empty) None) c) ≡ Ok s → is_end c ≡ false
+    filled : (c s : List ℕ) → at_element e.at (value_unless (cond (is_end c) (Some Empty) None) c) ≡ Ok s → is_end c ≡ false
     filled [] s e = absurd cc
     filled (o ∷ c) s e = refl
 
@@ -315,14 +319,18 @@ some-judged {A} row value P j e =
     (bind-der (value_at some_rules (λ c. c) e) (λ some. Ok xs) _ None _ _ (value-judged some_rules (λ c. c) e) (λ c p. (refl, tt))))
 
 -- an element that a value is read of
-pub each-reads : {A : Type 0} (row : Row) (value : Tlv → Result A Fault) (P : Tlv → A → Type 0) → ((e : Tlv) → Judged (der (value e)) (row_fault row e) (P e)) → Reads row (λ here. der (each value here)) P
+pub each-reads : {A : Type 0} (row : Row) (value : Tlv → Result A Fault) (P : Tlv → A → Type 0)
+    → ((e : Tlv) → Judged (der (value e)) (row_fault row e) (P e))
+    → Reads row (λ here. der (each value here)) P
 unfolding each
 each-reads row value P j = next-reads row value P j
 
 -- ---- one element within another
 
 -- what is read is encoded so
-pub alone-found : {A : Type 0} (value : Tlv → Result A Fault) (Encodes : List ℕ → A → Type 0) → Part (each value) Encodes → (e : Tlv) (x : A) → AreOctets e.content → alone value e ≡ Ok x → Encodes e.content x
+pub alone-found : {A : Type 0} (value : Tlv → Result A Fault) (Encodes : List ℕ → A → Type 0)
+    → Part (each value) Encodes → (e : Tlv) (x : A) → AreOctets e.content → alone value e ≡ Ok x
+    → Encodes e.content x
 unfolding alone
 alone-found {A} value Encodes part e x fits read =
     let a = bind_ok (each value (inside e)) _ x read in

@@ -9,7 +9,7 @@ use Rattle.ts_der.specs.Answer.{◌>>=◌, Answers, refusal}
 use Rattle.ts_der.specs.Rules.{Rule, first_broken, value_unless}
 use Rattle.ts_der.specs.Element.{Place, Tlv, inside}
 use Rattle.ts_der.specs.Header.{header_rules}
-use Rattle.ts_der.specs.Reading.{unless, fault_at, is_end, element_of, behind, next_at, element_at, value_at, end_at, many_from, located}
+use Rattle.ts_der.specs.Reading.{unless, fault_at, is_end, element_of, behind, next_at, element_at, value_at, end_at, many_from, at_element}
 use Rattle.ts_der.specs.Integer.{integer_rules}
 use Rattle.ts_der.specs.BitString.{whole_octets_rules}
 use Rattle.ts_der.specs.ObjectIdentifier.{oid_rules}
@@ -86,7 +86,9 @@ pub only-judged : {A : Type 0} (tag : ℕ) (shape : Shape) (rules : ContentRules
 only-judged {A} tag shape rules value e P j = by_tag (eqb e.tag tag) refl
   where
     by_tag : (b : Bool) → eqb e.tag tag ≡ b
-        → Judged (cond {A = Result A CertFault} b (value e) (Err (breaks e.at (Der WrongTag)))) (cond b (judge shape (inside e) or_else option_map (breaks e.at) (rules e.content)) (Some (breaks e.at (Der WrongTag)))) (λ v. (e.tag ≡ tag) × P v)
+        → Judged (cond {A = Result A CertFault} b (value e) (Err (breaks e.at (Der WrongTag))))
+        (cond b (judge shape (inside e) or_else option_map (breaks e.at) (rules e.content))
+        (Some (breaks e.at (Der WrongTag)))) (λ v. (e.tag ≡ tag) × P v)
     by_tag true same = weaker (value e) _ P _ (λ v p. (eqb-true e.tag tag same, p)) j
     by_tag false same = refl
 
@@ -106,7 +108,9 @@ element-only {A} {B} tag here value g = by_next (next_at here)
     by_next (Err f) = refl
 
 -- an element of one tag
-pub element-judged : {A B : Type 0} (tag : ℕ) (shape : Shape) (rules : ContentRules) (here : Place) (value : Tlv → Result A CertFault) (g : Tlv × Place → A → Result B CertFault) (p : Option CertFault) (P : A → Type 0) (Q : B → Type 0)
+pub element-judged : {A B : Type 0} (tag : ℕ) (shape : Shape) (rules : ContentRules) (here : Place)
+    (value : Tlv → Result A CertFault) (g : Tlv × Place → A → Result B CertFault)
+    (p : Option CertFault) (P : A → Type 0) (Q : B → Type 0)
     → Judged (value (element_of here)) (judge shape (inside (element_of here)) or_else option_map (breaks (element_of here).at) (rules (element_of here).content)) P
     → ((v : A) → Headed here → (element_of here).tag ≡ tag → P v → Judged (g (element_of here, behind here) v) p Q)
     → Judged (der (element_at tag here) >>= λ x. value x.0 >>= λ v. g x v) (header_fault here or_else row_fault (tagged tag shape rules no_other) (element_of here) or_else p) Q
@@ -179,7 +183,7 @@ pub value-judged : {A : Type 0} (rules : List Rule) (value : List ℕ → A) (e 
 value-judged {A} rules value e = by_rules (first_broken rules e.content) refl
   where
     by_rules : (o : Option DerFault) → first_broken rules e.content ≡ o
-        → Judged (der (located e.at (value_unless o (value e.content)))) (option_map (breaks e.at) (option_map Der o)) (λ x. (x ≡ value e.content) × (first_broken rules e.content ≡ None))
+        → Judged (der (at_element e.at (value_unless o (value e.content)))) (option_map (breaks e.at) (option_map Der o)) (λ x. (x ≡ value e.content) × (first_broken rules e.content ≡ None))
     by_rules None h = (refl, (refl, h))
     by_rules (Some k) h = refl
 
@@ -197,7 +201,9 @@ integer-reads = within-reads 0x02 plain (der_rules integer_rules) (value_at inte
 
 pub bits-reads : Reads bit_string (λ here. der (bits_at here)) Whatever
 unfolding bits_at
-bits-reads = within-reads 0x03 plain (der_rules whole_octets_rules) (value_at whole_octets_rules (λ c. drop 1 c)) Whatever (λ e. weaker _ _ _ _ (λ x p. tt) (value-judged whole_octets_rules (λ c. drop 1 c) e))
+bits-reads = within-reads 0x03 plain (der_rules whole_octets_rules)
+    (value_at whole_octets_rules (λ c. drop 1 c)) Whatever
+    (λ e. weaker _ _ _ _ (λ x p. tt) (value-judged whole_octets_rules (λ c. drop 1 c) e))
 
 -- an element of any tag
 pub next-reads : {A : Type 0} (row : Row) (value : Tlv → Result A Fault) (P : Tlv → A → Type 0) → ((e : Tlv) → Judged (der (value e)) (row_fault row e) (P e))
@@ -238,7 +244,9 @@ items-judged {A} row item P j (suc n) here = by_end (items-judged row item P j n
         (cond b None (header_fault here or_else row_fault row (element_of here) or_else each_fault (row_fault row) n (behind here))) (λ xs. AreElements (suc n) here)
     by_end more true e = (refl, ([], rw e refl, rw e refl))
     by_end more false e =
-        bind-der (item here) (λ x. many_from n item x.1 >>= λ xs. Ok (x.0 ∷ xs)) (header_fault here or_else row_fault row (element_of here)) (each_fault (row_fault row) n (behind here)) _ (λ xs. AreElements (suc n) here) (j here)
+        bind-der (item here) (λ x. many_from n item x.1 >>= λ xs. Ok (x.0 ∷ xs))
+        (header_fault here or_else row_fault row (element_of here))
+        (each_fault (row_fault row) n (behind here)) _ (λ xs. AreElements (suc n) here) (j here)
         (λ x p. no_less _ _ _
         (bind-der (many_from n item x.1) (λ xs. Ok (x.0 ∷ xs)) (each_fault (row_fault row) n (behind here)) None (λ xs. AreElements n (behind here)) (λ xs. AreElements (suc n) here)
         (subst (λ (after : Place). Judged (der (many_from n item after)) (each_fault (row_fault row) n (behind here)) (λ xs. AreElements n (behind here))) (sym p.1) more)

@@ -1,5 +1,9 @@
 -- Tables of keys in ascending order, the places of keys in them, and flags of keys.
-use Rattle.std.proofs.Common.{◌≡◌, ◌≢◌, ◌⊎◌, inl, inr, ℕ, zero, suc, ◌+◌, ◌<◌, ◌≤◌, Bool, true, false, cond, ◌||◌, List, [], ◌∷◌, ◌++◌, length, take, get_or, replicate, Option, Some, None, option_map, Ordering, Less, Equal, Greater, nat_cmp, is_eq, is_lt, bytes_eq, HoldsAt, refl, sym, ap, subst, ◌∙◌, arith}
+use Rattle.std.proofs.Common.{◌≡◌, ◌≢◌, ◌⊎◌, inl, inr, ℕ, zero, suc, ◌+◌, ◌<◌, ◌≤◌, Bool, true}
+use Rattle.std.proofs.Common.{false, cond, ◌||◌, List, [], ◌∷◌, ◌++◌, length, take, get_or}
+use Rattle.std.proofs.Common.{replicate, Option, Some, None, option_map, Ordering, Less, Equal}
+use Rattle.std.proofs.Common.{Greater, nat_cmp, is_eq, is_lt, bytes_eq, HoldsAt, refl, sym, ap}
+use Rattle.std.proofs.Common.{subst, ◌∙◌, arith}
 use Rattle.std.specs.Borrow.{Bor}
 use Rattle.std.specs.Cmp.Lexicographic.{slice_cmp}
 use Rattle.std.specs.List.{AllByRecursion, AllWithin}
@@ -18,7 +22,7 @@ use Rattle.std.proofs.Math.Seq.{take-suc}
 use Rattle.std.proofs.lemmas.Map.Text.{is_eq-slice_cmp}
 use Rattle.std.proofs.lemmas.Slice.Eq.{bytes_eq-Decides}
 use Rattle.ts_shape.specs.Repeats.{is_among, keys_in, AreAscending}
-use Rattle.ts_shape.specs.Collisions.{place_of}
+use Rattle.ts_shape.specs.inside.Collisions.{place_of}
 
 -- two keys are equal where comparing them says so
 compared : (x k : List ℕ) (o : Ordering) → slice_cmp nat_cmp x k ≡ o → bytes_eq k x ≡ is_eq o
@@ -175,7 +179,9 @@ equal-order Less e = absurd (false≢true e)
 equal-order Greater e = absurd (false≢true e)
 
 -- where that is equal to it, there it is
-pub from-here : (k : List ℕ) (table : List (Bor (List ℕ))) (i : ℕ) (x : Bor (List ℕ)) → IsFrom k table i → i < length table → bytes_eq (get_or table i x).now k ≡ true → place_of k (keys_in table) ≡ Some i
+pub from-here : (k : List ℕ) (table : List (Bor (List ℕ))) (i : ℕ) (x : Bor (List ℕ))
+    → IsFrom k table i → i < length table → bytes_eq (get_or table i x).now k ≡ true
+    → place_of k (keys_in table) ≡ Some i
 from-here k table i x from lt same =
     placed-here k table i lt (λ j d a b. is-less _ (from.0 j d a b))
     (λ d. ap (λ (y : Bor (List ℕ)). slice_cmp nat_cmp y.now k) (get_or_default table i d x lt)
@@ -234,7 +240,9 @@ marked-more met keys seen k i here lt marked q p e = by_place (eqb_tells p i)
 -- ---- flags, one for each answer of a function
 
 -- a key whose flag is not set is none of those whose flags are
-pub flag-new : (flag : List ℕ → ℕ) (flags : List Bool) (k : List ℕ) (keys : List (List ℕ)) → AllByRecursion (λ q. get_or flags (flag q) false ≡ true) keys → get_or flags (flag k) false ≡ false → is_among k keys ≡ false
+pub flag-new : (flag : List ℕ → ℕ) (flags : List Bool) (k : List ℕ) (keys : List (List ℕ))
+    → AllByRecursion (λ q. get_or flags (flag q) false ≡ true) keys
+    → get_or flags (flag k) false ≡ false → is_among k keys ≡ false
 flag-new flag flags k [] set new = refl
 flag-new flag flags k (q ∷ keys) set new = or_from (bytes_eq k q) (is_among k keys) (by_test (bytes_eq k q) refl) (flag-new flag flags k keys set.1 new)
   where
@@ -250,7 +258,9 @@ set-still flags i j lt is = by_place (eqb_tells j i)
     by_place (inr e) = get_or-set_other flags i j true false e.1 ∙ is
 
 -- one more flag leaves the others set
-pub flag-more : (flag : List ℕ → ℕ) (flags : List Bool) (i : ℕ) (keys : List (List ℕ)) → i < length flags → AllByRecursion (λ q. get_or flags (flag q) false ≡ true) keys → AllByRecursion (λ q. get_or (set flags i true) (flag q) false ≡ true) keys
+pub flag-more : (flag : List ℕ → ℕ) (flags : List Bool) (i : ℕ) (keys : List (List ℕ))
+    → i < length flags → AllByRecursion (λ q. get_or flags (flag q) false ≡ true) keys
+    → AllByRecursion (λ q. get_or (set flags i true) (flag q) false ≡ true) keys
 flag-more flag flags i [] lt all = tt
 flag-more flag flags i (q ∷ keys) lt all = (set-still flags i (flag q) lt all.0, flag-more flag flags i keys lt all.1)
 

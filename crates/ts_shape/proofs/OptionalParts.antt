@@ -27,7 +27,9 @@ begins-within {A} {tag} is rest = subst (λ (o : List ℕ). begins_with tag (o +
         by_test false e = absurd (eqb-false n n e refl)
 
 -- and with no other
-pub begins-other : {A : Type 0} {tag : ℕ} {Encodes : List ℕ → A → Type 0} {w : List ℕ} {x : A} → Within tag Encodes w x → (other : ℕ) → eqb tag other ≡ false → (rest : List ℕ) → begins_with other (w ++ rest) ≡ false
+pub begins-other : {A : Type 0} {tag : ℕ} {Encodes : List ℕ → A → Type 0} {w : List ℕ} {x : A}
+    → Within tag Encodes w x → (other : ℕ) → eqb tag other ≡ false → (rest : List ℕ)
+    → begins_with other (w ++ rest) ≡ false
 begins-other {A} {tag} is other e rest = subst (λ (o : List ℕ). begins_with other (o ++ rest) ≡ false) (sym is.encoded) e
 
 -- the same for a field that may be absent, before octets that do not begin so either
@@ -53,7 +55,9 @@ optional-found {A} tag value Encodes v here x after fits read = by_tag (begins_w
         let y = bind_ok (value b.0.0) (λ y. Ok (Some y, b.0.1)) (x, after) b.2 in
         let read : within tag value here ≡ Ok (y.0, b.0.1) = whole b.0.0 b.0.1 y.0 b.1 y.1 in
         let f = took (within-part tag value Encodes v) here y.0 b.0.1 fits read in
-        subst (λ (p : Option A × Place). (w : List ℕ) × IfAny tag Encodes w p.0 × (here.rest ≡ w ++ p.1.rest) × AreOctets p.1.rest) (ok_is {A = Option A × Place} {E = Fault} (Some y.0, b.0.1) (x, after) y.2)
+        subst (λ (p : Option A × Place). (w : List ℕ) × IfAny tag Encodes w p.0
+        × (here.rest ≡ w ++ p.1.rest) × AreOctets p.1.rest)
+        (ok_is {A = Option A × Place} {E = Fault} (Some y.0, b.0.1) (x, after) y.2)
         (f.0, f.1, f.2, f.3)
       where
         whole : (e : Tlv) (behind : Place) (y : A) → element_at tag here ≡ Ok (e, behind) → value e ≡ Ok y → within tag value here ≡ Ok (y, behind)
@@ -71,7 +75,10 @@ optional-again {A} tag value Encodes v here None w rest is absent e =
     rw none (ap (λ (p : Place). Ok (None, p)) place)
   where
     there : (here : Place) (w : List ℕ) → here.rest ≡ rest → w ≡ [] → here ≡ record { rest = rest; at = here.at + length w }
-    there here w same none = subst (λ (o : List ℕ). here ≡ record { rest = o; at = here.at + length w }) same (subst (λ (o : List ℕ). here ≡ record { rest = here.rest; at = here.at + length o }) (sym none) (ap (λ (n : ℕ). record { rest = here.rest; at = n }) (no_more here.at)))
+    there here w same none =
+        subst (λ (o : List ℕ). here ≡ record { rest = o; at = here.at + length w }) same
+        (subst (λ (o : List ℕ). here ≡ record { rest = here.rest; at = here.at + length o })
+        (sym none) (ap (λ (n : ℕ). record { rest = here.rest; at = n }) (no_more here.at)))
       where
         no_more : (n : ℕ) → n ≡ n + 0
         no_more n = omega arith

@@ -6,4 +6,4 @@ pub mod Items
 pub mod Rows
 pub mod Steps
 pub mod Repeats
-pub mod Collisions
+pub mod inside

@@ -8,8 +8,8 @@ ghost use Rattle.ts_der.specs.View.{now};
 ghost use Rattle.ts_shape.specs.Items.{items_at};
 ghost use Rattle.ts_shape.specs.Repeats.{first_repeated as first_repeated_of, keys_in};
 ghost use Rattle.ts_shape.specs.Repeats.{AreAscending};
-ghost use Rattle.ts_shape.specs.Collisions.{flag_of as flag_in, AreFlagged, AreCollisions};
-ghost use Rattle.ts_shape.specs.Collisions.{place_of as place_in};
+ghost use Rattle.ts_shape.specs.inside.Collisions.{flag_of as flag_in, AreFlagged, AreCollisions};
+ghost use Rattle.ts_shape.specs.inside.Collisions.{place_of as place_in};
 
 use crate::repeats::Keyed;
 use crate::sequence_of::SequenceItems;
@@ -91,7 +91,7 @@ fn gather<'a, T: Keyed<'a>, const N: usize, const M: usize>(
 /// The number of a key's flag, of `M`: by a hash that multiplies (Knuth, The Art of Computer
 /// Programming, 6.4), another one for each odd factor.
 #[inline(always)]
-#[tactic(auto, unfolding(crate::specs::Collisions::flag_of))]
+#[tactic(auto, unfolding(crate::specs::inside::Collisions::flag_of))]
 fn flag_of<const M: usize>(key: &[u8], factor: u64) -> usize
     requires flags { 0 < M }
     ensures flag { result ≡ flag_in M factor key.now }

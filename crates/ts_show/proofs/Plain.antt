@@ -9,26 +9,26 @@ use Rattle.ts_der.specs.Printed.{fault_name}
 use Rattle.ts_shape.specs.declared.fault.CertRule.{CertRule}
 use Rattle.ts_shape.specs.declared.fault.CertRule.TheVariants as rule
 use Rattle.ts_shape.specs.Printed.{rule_name}
-use Rattle.ts_show.specs.Lines.{shown, shown_octet}
+use Rattle.ts_show.specs.Lines.{printable, shown_octet}
 
-pub shown_append : (xs ys : List ℕ) → shown (xs ++ ys) ≡ shown xs ++ shown ys
+pub shown_append : (xs ys : List ℕ) → printable (xs ++ ys) ≡ printable xs ++ printable ys
 shown_append xs ys = flat_map-append shown_octet xs ys
 
 plain_digit : (n : ℕ) → n < 10 → shown_octet (48 + n) ≡ (48 + n) ∷ []
 plain_digit n small = grind arith
 
-plain_one : (n : ℕ) → n < 10 → shown ((48 + n) ∷ []) ≡ (48 + n) ∷ []
+plain_one : (n : ℕ) → n < 10 → printable ((48 + n) ∷ []) ≡ (48 + n) ∷ []
 plain_one n small = ap (λ (ds : List ℕ). ds ++ []) (plain_digit n small)
 
-one_more : (n : ℕ) (ds : List ℕ) → shown ds ≡ ds → shown (ds ++ ((48 + n % 10) ∷ [])) ≡ ds ++ ((48 + n % 10) ∷ [])
+one_more : (n : ℕ) (ds : List ℕ) → printable ds ≡ ds → printable (ds ++ ((48 + n % 10) ∷ [])) ≡ ds ++ ((48 + n % 10) ∷ [])
 one_more n ds before =
     let small : n % 10 < 10 = omega arith in
     shown_append ds ((48 + n % 10) ∷ []) ∙ rw (before, plain_one (n % 10) small) refl
 
-pub shown_decimal : (n : ℕ) → n < 2 ^ 64 → shown (decimal n) ≡ decimal n
-shown_decimal n small = decimal_by_steps (λ n ds. shown ds ≡ ds) plain_one (λ n ds le before. one_more n ds before) n small
+pub shown_decimal : (n : ℕ) → n < 2 ^ 64 → printable (decimal n) ≡ decimal n
+shown_decimal n small = decimal_by_steps (λ n ds. printable ds ≡ ds) plain_one (λ n ds le before. one_more n ds before) n small
 
-shown_name : (fault : DerFault) → shown (fault_name fault) ≡ fault_name fault
+shown_name : (fault : DerFault) → printable (fault_name fault) ≡ fault_name fault
 shown_name der.Truncated = refl
 shown_name der.HighTag = refl
 shown_name der.Indefinite = refl
@@ -47,7 +47,7 @@ shown_name der.TextForm = refl
 shown_name der.TimeForm = refl
 shown_name der.Empty = refl
 
-pub shown_rule : (rule : CertRule) → shown (rule_name rule) ≡ rule_name rule
+pub shown_rule : (rule : CertRule) → printable (rule_name rule) ≡ rule_name rule
 shown_rule (rule.Der fault) = shown_name fault
 shown_rule rule.AlgorithmMismatch = refl
 shown_rule rule.DuplicateExtension = refl

@@ -5,8 +5,8 @@ use Rattle.ts_cert.specs.Encoding.{IsCertificate}
 use Rattle.ts_crl.specs.List.{CertificateList}
 use Rattle.ts_crl.specs.Encoding.{IsCertificateList}
 use Rattle.ts_store.specs.declared.command.Command.{Command}
-use Rattle.ts_store.specs.Commands.{encoding as command_encoding, Fits as CommandFits}
-use Rattle.ts_question.specs.Question.{Asked, encoding as question_encoding, Fits as QuestionFits}
+use Rattle.ts_store.specs.Commands.{command_encoding, CommandFits}
+use Rattle.ts_question.specs.Question.{StoreQuestion, question_encoding, QuestionFits}
 use Rattle.ts_show.specs.declared.kind.Kind.{Kind}
 use Rattle.ts_show.specs.declared.kind.Kind.TheVariants as kind
 
@@ -28,7 +28,7 @@ AreCommand octets = (command : Command) × CommandFits command × (octets ≡ co
 
 -- they are a question
 abbrev pub AreQuestion : List ℕ → Type 0
-AreQuestion octets = (q : Asked) × QuestionFits q × (octets ≡ question_encoding q)
+AreQuestion octets = (q : StoreQuestion) × QuestionFits q × (octets ≡ question_encoding q)
 
 -- they begin with the tag of a SEQUENCE
 abbrev pub BeginSequence : List ℕ → Type 0

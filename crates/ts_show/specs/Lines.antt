@@ -16,27 +16,27 @@ abbrev pub digit : ℕ → ℕ
 digit n = if nat_lt n 10 then 48 + n else 87 + n
 
 -- the two hexadecimal digits of an octet
-abbrev pub two_digits : ℕ → List ℕ
-two_digits octet = digit (octet / 16) ∷ digit (octet % 16) ∷ []
+abbrev pub two_hex_digits : ℕ → List ℕ
+two_hex_digits octet = digit (octet / 16) ∷ digit (octet % 16) ∷ []
 
 -- octets in hexadecimal digits
 abbrev pub hex : List ℕ → List ℕ
-hex octets = flat_map two_digits octets
+hex octets = flat_map two_hex_digits octets
 
 -- an octet as it is shown: as itself where it is printable and no backslash, else as a backslash, x
 -- and its two digits
 abbrev pub shown_octet : ℕ → List ℕ
 shown_octet octet = if is_printable octet && not (octet == 92) then octet ∷ []
-    else 92 ∷ 120 ∷ two_digits octet
+    else 92 ∷ 120 ∷ two_hex_digits octet
 
 -- octets as they are shown
-abbrev pub shown : List ℕ → List ℕ
-shown octets = flat_map shown_octet octets
+abbrev pub printable : List ℕ → List ℕ
+printable octets = flat_map shown_octet octets
 
 -- a line with the line feed that ends it
-abbrev pub ended : List ℕ → List ℕ
-ended line = line ++ 10 ∷ []
+abbrev pub with_line_feed : List ℕ → List ℕ
+with_line_feed line = line ++ 10 ∷ []
 
 -- the text of lines
 abbrev pub text_of : List (List ℕ) → List ℕ
-text_of lines = flat_map ended lines
+text_of lines = flat_map with_line_feed lines

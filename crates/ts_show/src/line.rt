@@ -3,7 +3,8 @@
 ghost use Rattle.std.specs.Prelude.{◌≡◌, ◌<◌, ◌++◌, ◌∷◌, [], true, ℕ, List, OnOk, IfOk};
 ghost use Rattle.std.specs.Fmt.{decimal};
 ghost use Rattle.std.specs.List.{list_all};
-ghost use Rattle.ts_show.specs.Lines.{is_printable, digit, two_digits, hex, shown_octet, shown};
+ghost use Rattle.ts_show.specs.Lines.{is_printable, digit, two_hex_digits, hex, shown_octet};
+ghost use Rattle.ts_show.specs.Lines.{printable};
 
 use std::alloc::{AllocError, Global};
 use std::marker::Model;
@@ -60,7 +61,7 @@ impl Line {
 
     /// A line that begins with these octets.
     pub fn of(alloc: Global, octets: &[u8]) -> Result<Line, AllocError>
-        ensures { IfOk result (λ line. line ≡ shown octets.now) }
+        ensures { IfOk result (λ line. line ≡ printable octets.now) }
     {
         let mut line = Line::new(alloc);
         line.text(octets)?;
@@ -99,7 +100,7 @@ impl Line {
 
     /// Writes octets in this way.
     pub fn text(&mut self, octets: &[u8]) -> Result<(), AllocError>
-        ensures { OnOk result (self.new ≡ self.old ++ shown octets.now) }
+        ensures { OnOk result (self.new ≡ self.old ++ printable octets.now) }
     {
         for octet in octets {
             self.octet(*octet)?;
@@ -109,7 +110,7 @@ impl Line {
 
     /// Writes a space and octets.
     pub fn word(&mut self, octets: &[u8]) -> Result<(), AllocError>
-        ensures { OnOk result (self.new ≡ self.old ++ 32 ∷ shown octets.now) }
+        ensures { OnOk result (self.new ≡ self.old ++ 32 ∷ printable octets.now) }
     {
         self.put(b' ')?;
         self.text(octets)
@@ -117,7 +118,7 @@ impl Line {
 
     /// Writes the two hexadecimal digits of an octet.
     fn two_digits(&mut self, octet: u8) -> Result<(), AllocError>
-        ensures { OnOk result (self.new ≡ self.old ++ two_digits octet) }
+        ensures { OnOk result (self.new ≡ self.old ++ two_hex_digits octet) }
     {
         self.put(digit(octet / 16))?;
         self.put(digit(octet % 16))

@@ -63,7 +63,7 @@ impl Lines {
         ensures printable { list_all (list_all is_printable) self.now ≡ true }
     {
         are_printable(&self.lines);
-        ended(self.alloc, &self.lines)
+        ended_lines(self.alloc, &self.lines)
     }
 }
 
@@ -113,7 +113,7 @@ impl Lines {
 }
 
 /// Lines, each ended by a line feed.
-fn ended(alloc: Global, lines: &[Line]) -> Result<Vec<u8>, AllocError>
+fn ended_lines(alloc: Global, lines: &[Line]) -> Result<Vec<u8>, AllocError>
     ensures { IfOk result (λ text. text.items ≡ text_of lines.now) }
 {
     let mut text = Vec::new(alloc);

@@ -6,7 +6,7 @@ use crate::lines::Lines;
 use std::alloc::AllocError;
 use ts_disk::MemDisk;
 use ts_journal::{Look, look_at};
-use ts_record::{Fault, Record};
+use ts_record::{Record, RecordFault};
 use ts_store::Command;
 use ts_synod::Fact;
 
@@ -31,16 +31,18 @@ fn disk_line(lines: &mut Lines, key: &str, octets: &[u8]) -> Result<(), AllocErr
 /// # Errors
 ///
 /// Out of memory; on disks in memory a device fails for nothing else.
-fn fault_line(lines: &mut Lines, fault: Fault) -> Result<(), AllocError> {
+fn fault_line(lines: &mut Lines, fault: RecordFault) -> Result<(), AllocError> {
     let mut line = lines.begin(0, "fault")?;
     line.word(match fault {
-        Fault::Memory | Fault::DiskFailed | Fault::Broken => return Err(AllocError),
-        Fault::GenerationsExhausted => b"GenerationsExhausted",
-        Fault::NotFormatted => b"NotFormatted",
-        Fault::OldVersion => b"OldVersion",
-        Fault::Damaged(_) => b"Damaged",
+        RecordFault::Memory | RecordFault::DiskFailed | RecordFault::Broken => return Err(
+            AllocError,
+        ),
+        RecordFault::GenerationsExhausted => b"GenerationsExhausted",
+        RecordFault::NotFormatted => b"NotFormatted",
+        RecordFault::OldVersion => b"OldVersion",
+        RecordFault::Damaged(_) => b"Damaged",
     })?;
-    if let Fault::Damaged(at) = fault {
+    if let RecordFault::Damaged(at) = fault {
         line.word(b"at ")?;
         line.number(at as u64)?;
     }

@@ -64,7 +64,7 @@ fn body_of(alloc: Global, kind: Kind, octets: &[u8], other: &[u8]) -> Result<Lin
 }
 
 /// The first line, and these.
-fn headed(alloc: Global, kind: Kind, body: Lines) -> Result<Lines, AllocError>
+fn with_head(alloc: Global, kind: Kind, body: Lines) -> Result<Lines, AllocError>
     ensures { IfOk result (λ lines. lines ≡ word_of kind ∷ body) }
 {
     let mut lines = Lines::new(alloc);
@@ -107,10 +107,10 @@ fn lines_of(alloc: Global, kind: Kind, octets: &[u8], other: &[u8]) -> Result<Li
 {
     let body = body_of(alloc, kind, octets, other)?;
     match kind {
-        Kind::Record | Kind::Command | Kind::Question => headed(alloc, kind, body),
+        Kind::Record | Kind::Command | Kind::Question => with_head(alloc, kind, body),
         Kind::Certificate | Kind::List => headed_by_id(alloc, kind, octets, body),
         Kind::Broken => fault_lines(alloc, octets),
-        Kind::Unknown => headed(alloc, kind, Lines::new(alloc)),
+        Kind::Unknown => with_head(alloc, kind, Lines::new(alloc)),
     }
 }
 

@@ -2,13 +2,13 @@
 use Rattle.std.proofs.Common.{◌≡◌, ◌∷◌, ℕ, ℤ, List, true, false, nat_eq, refl, arith, Result, Ok, Err, IfOk, IfErr, inl, inr}
 use Rattle.std.specs.Char.{is_ascii_whitespace}
 use Rattle.std.proofs.lemmas.Bool.Decides.{nat_tests}
-use Rattle.ts_form.specs.Pairs.{Named}
+use Rattle.ts_form.specs.Pairs.{NamedValue}
 use Rattle.ts_form.specs.Said.{IsUnsaidText}
 use Rattle.ts_form.specs.declared.fault.FormFault.{FormFault}
 use Rattle.ts_form.specs.declared.fault.FormFault.TheVariants as faults
-use Rattle.ts_form.specs.declared.wanted.Wanted.{Wanted}
-use Rattle.ts_site.specs.Asking.{BodyRefused, IsAsked, IsAskedBy, IsAskedFrom, PairsRefused, RequestRefused, Says, SaysBody, SaysNoJson, SaysPairs, is_json, pairs_in}
-use Rattle.ts_site.specs.declared.asking.Asked.{Asked}
+use Rattle.ts_form.specs.declared.wanted.WantedFields.{WantedFields}
+use Rattle.ts_site.specs.inside.Asking.{BodyRefused, IsAsked, IsAskedBy, IsAskedFrom, PairsRefused, RequestRefused, Says, SaysBody, SaysNoJson, SaysPairs, is_json, pairs_in}
+use Rattle.ts_site.specs.declared.asking.AskedQuestion.{AskedQuestion}
 use Rattle.ts_site.specs.declared.asking.NoQuestion.{NoQuestion}
 use Rattle.ts_site.specs.declared.asking.NoQuestion.TheVariants.{Form, Limits}
 
@@ -30,28 +30,34 @@ query_refused target body faults.Name refused = inl refused
 query_refused target body (faults.Value field) refused = inl refused
 query_refused target body (faults.Twice field) refused = inl refused
 
-refused_in_body : (target body : List ℕ) (mid : Wanted) (fault : FormFault) → SaysPairs (pairs_in target) mid → BodyRefused body mid fault → RequestRefused target body fault
+refused_in_body : (target body : List ℕ) (mid : WantedFields) (fault : FormFault) → SaysPairs (pairs_in target) mid → BodyRefused body mid fault → RequestRefused target body fault
 refused_in_body target body mid faults.Memory says refused = tt
 refused_in_body target body mid faults.Json says refused = inr (mid, says, refused)
 refused_in_body target body mid faults.Name says refused = inr (mid, says, refused)
 refused_in_body target body mid (faults.Value field) says refused = inr (mid, says, refused)
 refused_in_body target body mid (faults.Twice field) says refused = inr (mid, says, refused)
 
-pub body_refused : {T : Type 0} (r : Result T FormFault) (target body : List ℕ) (mid : Wanted) → SaysPairs (pairs_in target) mid → IfErr r (BodyRefused body mid) → IfErr r (RequestRefused target body)
+pub body_refused : {T : Type 0} (r : Result T FormFault) (target body : List ℕ) (mid : WantedFields)
+    → SaysPairs (pairs_in target) mid → IfErr r (BodyRefused body mid)
+    → IfErr r (RequestRefused target body)
 body_refused (Ok wanted) target body mid says refused = refused
 body_refused (Err fault) target body mid says refused = refused_in_body target body mid fault says refused
 
-pub body_says : {E : Type 0} (r : Result Wanted E) (target body : List ℕ) (mid : Wanted) → SaysPairs (pairs_in target) mid → IfOk r (SaysBody body mid) → IfOk r (Says target body)
+pub body_says : {E : Type 0} (r : Result WantedFields E) (target body : List ℕ) (mid : WantedFields) → SaysPairs (pairs_in target) mid → IfOk r (SaysBody body mid) → IfOk r (Says target body)
 body_says (Ok wanted) target body mid says is = (mid, says, is)
 body_says (Err e) target body mid says is = is
 
-pub asked_from : {E : Type 0} (r : Result (Result Asked NoQuestion) E) (pairs : List Named) (wanted : Wanted) (now : ℤ) → SaysPairs pairs wanted → IfOk r (IsAsked wanted now) → IfOk r (IsAskedFrom pairs now)
+pub asked_from : {E : Type 0} (r : Result (Result AskedQuestion NoQuestion) E)
+    (pairs : List NamedValue) (wanted : WantedFields) (now : ℤ) → SaysPairs pairs wanted
+    → IfOk r (IsAsked wanted now) → IfOk r (IsAskedFrom pairs now)
 asked_from (Ok (Ok asked)) pairs wanted now says is = (wanted, says, is)
 asked_from (Ok (Err Limits)) pairs wanted now says is = (wanted, says, is)
 asked_from (Ok (Err (Form fault))) pairs wanted now says is = absurd is
 asked_from (Err e) pairs wanted now says is = is
 
-pub asked_by : {E : Type 0} (r : Result (Result Asked NoQuestion) E) (target body : List ℕ) (wanted : Wanted) (now : ℤ) → Says target body wanted → IfOk r (IsAsked wanted now) → IfOk r (IsAskedBy target body now)
+pub asked_by : {E : Type 0} (r : Result (Result AskedQuestion NoQuestion) E) (target body : List ℕ)
+    (wanted : WantedFields) (now : ℤ) → Says target body wanted → IfOk r (IsAsked wanted now)
+    → IfOk r (IsAskedBy target body now)
 asked_by (Ok (Ok asked)) target body wanted now says is = (wanted, says, is)
 asked_by (Ok (Err Limits)) target body wanted now says is = (wanted, says, is)
 asked_by (Ok (Err (Form fault))) target body wanted now says is = absurd is

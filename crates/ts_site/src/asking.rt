@@ -3,15 +3,16 @@
 ghost use Rattle.std.specs.Prelude.{◌≡◌, IfOk, IfErr, OnOk, map};
 ghost use Rattle.sha2.specs.Sha256.{sha256};
 ghost use Rattle.ts_form.specs.Pairs.{pair_in};
-ghost use Rattle.ts_question.specs.Question.{encoding};
-ghost use Rattle.ts_site.specs.Asking.{BodyRefused, IsAsked, IsAskedBy, IsAskedFrom};
-ghost use Rattle.ts_site.specs.Asking.{PairsRefused, RequestRefused, Says, SaysBody, SaysJson};
-ghost use Rattle.ts_site.specs.Asking.{SaysNoJson, SaysPairs, is_json};
+ghost use Rattle.ts_question.specs.Question.{question_encoding};
+ghost use Rattle.ts_site.specs.inside.Asking.{BodyRefused, IsAsked, IsAskedBy, IsAskedFrom};
+ghost use Rattle.ts_site.specs.inside.Asking.{PairsRefused, RequestRefused, Says, SaysBody};
+ghost use Rattle.ts_site.specs.inside.Asking.{SaysJson};
+ghost use Rattle.ts_site.specs.inside.Asking.{SaysNoJson, SaysPairs, is_json};
 
 use crate::request::query_of;
 use sha2::{Digest, Sha256};
 use std::alloc::{AllocError, Global};
-use ts_form::{FormFault, Pair, Wanted, form_pairs, json_pairs, question_of};
+use ts_form::{FormFault, Pair, WantedFields, form_pairs, json_pairs, question_of};
 use ts_http::Request;
 use ts_question::Question;
 
@@ -26,7 +27,7 @@ pub(crate) enum NoQuestion {
 
 /// A question, and what is known of it.
 #[derive(Drop)]
-pub(crate) struct Asked {
+pub(crate) struct AskedQuestion {
     pub question: Question,
     /// The SHA-256 of its octets.
     pub id: [u8; 32],
@@ -61,7 +62,7 @@ fn object_pairs(alloc: Global, body: &[u8]) -> Result<Vec<Pair>, FormFault>
 }
 
 /// Adds what a body says: an object of JSON, or certificates.
-fn add_body(alloc: Global, wanted: &mut Wanted, body: &[u8]) -> Result<(), FormFault>
+fn add_body(alloc: Global, wanted: &mut WantedFields, body: &[u8]) -> Result<(), FormFault>
     ensures says { OnOk result (SaysBody body.now wanted.old wanted.new) }
     ensures refused { IfErr result (BodyRefused body.now wanted.old) }
 {
@@ -76,11 +77,11 @@ fn add_body(alloc: Global, wanted: &mut Wanted, body: &[u8]) -> Result<(), FormF
 }
 
 /// What pairs ask for.
-pub(crate) fn wanted_in(alloc: Global, pairs: &[Pair]) -> Result<Wanted, FormFault>
+pub(crate) fn wanted_in(alloc: Global, pairs: &[Pair]) -> Result<WantedFields, FormFault>
     ensures says { IfOk result (SaysPairs (map pair_in pairs.now)) }
     ensures refused { IfErr result (PairsRefused (map pair_in pairs.now)) }
 {
-    let mut wanted = Wanted::new(alloc);
+    let mut wanted = WantedFields::new(alloc);
     match wanted.add_all(alloc, pairs) {
         Ok(()) => Ok(wanted),
         Err(fault) => Err(fault),
@@ -88,7 +89,11 @@ pub(crate) fn wanted_in(alloc: Global, pairs: &[Pair]) -> Result<Wanted, FormFau
 }
 
 /// What a body asks for, behind what was asked before.
-fn with_body(alloc: Global, mut wanted: Wanted, body: &[u8]) -> Result<Wanted, FormFault>
+fn with_body(
+    alloc: Global,
+    mut wanted: WantedFields,
+    body: &[u8],
+) -> Result<WantedFields, FormFault>
     ensures says { IfOk result (SaysBody body.now wanted) }
     ensures refused { IfErr result (BodyRefused body.now wanted) }
 {
@@ -99,7 +104,7 @@ fn with_body(alloc: Global, mut wanted: Wanted, body: &[u8]) -> Result<Wanted, F
 }
 
 /// What the query and the body of a request ask for.
-fn wanted_of(alloc: Global, request: &Request) -> Result<Wanted, FormFault>
+fn wanted_of(alloc: Global, request: &Request) -> Result<WantedFields, FormFault>
     ensures says { IfOk result (Says request.now.target.items request.now.body.items) }
     ensures refused { IfErr result
         (RequestRefused request.now.target.items request.now.body.items) }
@@ -113,7 +118,7 @@ fn wanted_of(alloc: Global, request: &Request) -> Result<Wanted, FormFault>
 
 /// The SHA-256 of a question's octets.
 fn id_of(alloc: Global, question: &Question) -> Result<[u8; 32], AllocError>
-    ensures { IfOk result (λ id. id ≡ sha256 (encoding question.now)) }
+    ensures { IfOk result (λ id. id ≡ sha256 (question_encoding question.now)) }
 {
     let octets = question.octets(alloc)?;
     let mut hasher = Sha256::new();
@@ -124,9 +129,9 @@ fn id_of(alloc: Global, question: &Question) -> Result<[u8; 32], AllocError>
 /// The question that fields ask, at this moment if they name none.
 pub(crate) fn asked_of(
     alloc: Global,
-    wanted: Wanted,
+    wanted: WantedFields,
     now: i64,
-) -> Result<Result<Asked, NoQuestion>, AllocError>
+) -> Result<Result<AskedQuestion, NoQuestion>, AllocError>
     ensures { IfOk result (λ asked. IsAsked wanted now asked) }
 {
     let is_pinned = wanted.at.is_some() && wanted.k.is_some();
@@ -134,7 +139,7 @@ pub(crate) fn asked_of(
         return Ok(Err(NoQuestion::Limits));
     };
     let id = id_of(alloc, &question)?;
-    Ok(Ok(Asked {
+    Ok(Ok(AskedQuestion {
         question,
         id,
         is_pinned,
@@ -146,7 +151,7 @@ pub(crate) fn question_in(
     alloc: Global,
     request: &Request,
     now: i64,
-) -> Result<Result<Asked, NoQuestion>, AllocError>
+) -> Result<Result<AskedQuestion, NoQuestion>, AllocError>
     ensures { IfOk result
         (IsAskedBy request.now.target.items request.now.body.items now) }
 {
@@ -162,7 +167,7 @@ pub(crate) fn question_from(
     alloc: Global,
     pairs: &[Pair],
     now: i64,
-) -> Result<Result<Asked, NoQuestion>, AllocError>
+) -> Result<Result<AskedQuestion, NoQuestion>, AllocError>
     ensures { IfOk result (IsAskedFrom (map pair_in pairs.now) now) }
 {
     match wanted_in(alloc, pairs) {

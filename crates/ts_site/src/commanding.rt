@@ -2,8 +2,8 @@
 
 ghost use Rattle.std.specs.Prelude.{IfOk, map, option_map};
 ghost use Rattle.ts_http.specs.Request.{field_in};
-ghost use Rattle.ts_site.specs.Commanding.{BeginsCommand, IsFirst, IsRefusal};
-ghost use Rattle.ts_site.specs.Request.{bearer_in};
+ghost use Rattle.ts_site.specs.inside.Commanding.{BeginsCommand, IsFirst, IsRefusal};
+ghost use Rattle.ts_site.specs.inside.Request.{bearer_in};
 
 use crate::frames::{outcome_frame, submit_frame};
 use crate::next::{Next, Waits, ask};

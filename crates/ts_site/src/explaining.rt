@@ -1,13 +1,13 @@
 //! The page's form: a verdict, and why a chain is not valid that no search found valid.
 
-use crate::asking::{Asked, asked_of, question_from, wanted_in};
+use crate::asking::{AskedQuestion, asked_of, question_from, wanted_in};
 use crate::board::Board;
 use crate::frames::question_frame;
 use crate::listing::rows_question;
 use crate::next::{Next, Waits, ask};
 use crate::refusing::{no_question_page, problem};
 use crate::response::{Content, Response};
-use crate::verifying::kept;
+use crate::verifying::time_kept;
 use std::alloc::{AllocError, Global};
 use ts_cert::Cert;
 use ts_form::{FormFault, Pair, form_pairs};
@@ -25,7 +25,7 @@ const EXPLAINED: &str =
 /// A chain that no search found valid, while its anchor is looked for.
 #[derive(Drop)]
 pub(crate) struct Explaining {
-    pub asked: Asked,
+    pub asked: AskedQuestion,
     pub answer: Answer,
     pub pairs: Vec<Pair>,
     /// How many rows of the store were looked at.
@@ -33,7 +33,7 @@ pub(crate) struct Explaining {
 }
 
 /// Asks the question of a form.
-fn ask_form(alloc: Global, asked: Asked, pairs: Vec<Pair>) -> Result<Next, AllocError> {
+fn ask_form(alloc: Global, asked: AskedQuestion, pairs: Vec<Pair>) -> Result<Next, AllocError> {
     let frame = question_frame(alloc, &asked.question)?;
     Ok(ask(Waits::Form(asked, pairs), frame))
 }
@@ -50,7 +50,7 @@ pub(crate) fn begin_form(alloc: Global, request: &Request, now: i64) -> Result<N
 /// The page with a verdict.
 fn page(
     alloc: Global,
-    asked: &Asked,
+    asked: &AskedQuestion,
     answer: &Answer,
     note: &'static str,
     pairs: &[Pair],
@@ -59,12 +59,12 @@ fn page(
     let chain = chain_fields(alloc, &asked.question, answer.reply())?;
     let body = verdict_page(alloc, &fields, &chain, note, pairs)?;
     let mut response = Response::new(200, Content::Html, body);
-    response.keeps = kept(asked.is_pinned, answer.reply());
+    response.keeps = time_kept(asked.is_pinned, answer.reply());
     Ok(response)
 }
 
 /// The last certificate of a search that is short enough for a chain.
-fn last_of(asked: &Asked) -> Option<&[u8]> {
+fn last_of(asked: &AskedQuestion) -> Option<&[u8]> {
     let Target::Search { certificates } = asked.question.target() else {
         return None;
     };
@@ -86,7 +86,7 @@ fn ask_rows(alloc: Global, explaining: Explaining) -> Result<Next, AllocError> {
 /// The answer to a form's question as it came.
 fn take_answer(
     alloc: Global,
-    asked: Asked,
+    asked: AskedQuestion,
     pairs: Vec<Pair>,
     answer: &Answer,
 ) -> Result<Next, AllocError> {
@@ -110,7 +110,7 @@ fn take_answer(
 /// Goes on once the node has answered a form's question.
 pub(crate) fn end_form(
     alloc: Global,
-    asked: Asked,
+    asked: AskedQuestion,
     pairs: Vec<Pair>,
     frame: &Frame,
     board: &mut Board,
@@ -167,7 +167,11 @@ fn ask_explained(
 }
 
 /// Asks the second question of a form.
-fn ask_form_explained(alloc: Global, asked: Asked, pairs: Vec<Pair>) -> Result<Next, AllocError> {
+fn ask_form_explained(
+    alloc: Global,
+    asked: AskedQuestion,
+    pairs: Vec<Pair>,
+) -> Result<Next, AllocError> {
     let frame = question_frame(alloc, &asked.question)?;
     Ok(ask(Waits::Explained(asked, pairs), frame))
 }
@@ -222,7 +226,7 @@ pub(crate) fn go_on_anchors(
 /// Goes on once the node has answered a form's second question.
 pub(crate) fn end_explained(
     alloc: Global,
-    asked: &Asked,
+    asked: &AskedQuestion,
     pairs: &[Pair],
     frame: &Frame,
 ) -> Result<Next, AllocError> {

@@ -1,7 +1,7 @@
 //! The frames that the node is asked by.
 
 ghost use Rattle.std.specs.Prelude.{◌≡◌, IfOk};
-ghost use Rattle.ts_wire.specs.Frames.{encoding};
+ghost use Rattle.ts_wire.specs.Frames.{frame_encoding};
 ghost use Rattle.ts_wire.specs.declared.frame.Frame.TheVariants as frames;
 
 use std::alloc::{AllocError, Global};
@@ -20,21 +20,21 @@ const OUTCOME: [u8; 6] = [0, 0, 0, 18, 2, 0x13];
 
 /// The frame that asks how many commands the node knows.
 pub(crate) fn status_frame(alloc: Global) -> Result<Vec<u8>, AllocError>
-    ensures { IfOk result (λ frame. frame.items ≡ encoding frames.Status) }
+    ensures { IfOk result (λ frame. frame.items ≡ frame_encoding frames.Status) }
 {
     Vec::from_slice(alloc, &STATUS)
 }
 
 /// The frame that asks which node it is.
 pub(crate) fn identify_frame(alloc: Global) -> Result<Vec<u8>, AllocError>
-    ensures { IfOk result (λ frame. frame.items ≡ encoding frames.Identify) }
+    ensures { IfOk result (λ frame. frame.items ≡ frame_encoding frames.Identify) }
 {
     Vec::from_slice(alloc, &IDENTIFY)
 }
 
 /// The frame that asks what became of a command.
 pub(crate) fn outcome_frame(alloc: Global, id: &[u8; 16]) -> Result<Vec<u8>, AllocError>
-    ensures { IfOk result (λ frame. frame.items ≡ encoding (frames.Outcome id.now)) }
+    ensures { IfOk result (λ frame. frame.items ≡ frame_encoding (frames.Outcome id.now)) }
 {
     let mut octets = Vec::from_slice(alloc, &OUTCOME)?;
     octets.extend_from_slice(id)?;
@@ -43,7 +43,7 @@ pub(crate) fn outcome_frame(alloc: Global, id: &[u8; 16]) -> Result<Vec<u8>, All
 
 /// The octets of a frame.
 fn octets_of(alloc: Global, frame: &Frame) -> Result<Vec<u8>, AllocError>
-    ensures { IfOk result (λ octets. octets.items ≡ encoding frame.now) }
+    ensures { IfOk result (λ octets. octets.items ≡ frame_encoding frame.now) }
 {
     let mut octets = Vec::new(alloc);
     match write_frame(alloc, &mut octets, frame) {
@@ -55,7 +55,7 @@ fn octets_of(alloc: Global, frame: &Frame) -> Result<Vec<u8>, AllocError>
 
 /// The frame of a question.
 pub(crate) fn question_frame(alloc: Global, question: &Question) -> Result<Vec<u8>, AllocError>
-    ensures { IfOk result (λ frame. frame.items ≡ encoding (frames.Question question.now)) }
+    ensures { IfOk result (λ frame. frame.items ≡ frame_encoding (frames.Question question.now)) }
 {
     let octets = question.octets(alloc)?;
     // No question is longer than a frame may be.
@@ -74,7 +74,7 @@ pub(crate) fn question_frame(alloc: Global, question: &Question) -> Result<Vec<u
 
 /// The frame that submits a command.
 pub(crate) fn submit_frame(alloc: Global, command: Command) -> Result<Vec<u8>, AllocError>
-    ensures { IfOk result (λ frame. frame.items ≡ encoding (frames.Submit command)) }
+    ensures { IfOk result (λ frame. frame.items ≡ frame_encoding (frames.Submit command)) }
 {
     octets_of(alloc, &Frame::Submit { command })
 }

@@ -21,7 +21,7 @@ pub(crate) struct Gauging {
 }
 
 /// The metrics.
-fn told(alloc: Global, board: &Board, prefix: u32) -> Result<Next, AllocError> {
+fn metrics(alloc: Global, board: &Board, prefix: u32) -> Result<Next, AllocError> {
     let text = metrics_text(alloc, board, prefix)?;
     let body = Vec::from_slice(alloc, text.as_bytes())?;
     Ok(Next::Tell(Response::new(200, Content::Metrics, body)))
@@ -45,7 +45,7 @@ pub(crate) fn go_on_metrics(
         return Ok(Next::Tell(node_failed_line(alloc)?));
     };
     match &board.summary {
-        Some(summary) if summary.k == *prefix => told(alloc, board, *prefix),
+        Some(summary) if summary.k == *prefix => metrics(alloc, board, *prefix),
         _ => ask_rows(
             alloc,
             Gauging {
@@ -85,7 +85,7 @@ fn take_rows(
         return ask_rows(alloc, gauging);
     }
     board.summary = Some(gauging.summary);
-    told(alloc, board, gauging.summary.k)
+    metrics(alloc, board, gauging.summary.k)
 }
 
 /// Goes on once the node has answered with rows of the store.

@@ -10,18 +10,18 @@
 //! face.leave(count, now);                                 // of face.octets(), so many have left
 //! ```
 //!
-//! - [`Face`]: a connection. What it reads and writes, and that each request is answered once and in
-//!   order, `ts_http` says; here each request comes to one response, at once or once the node has
-//!   answered.
+//! - [`Face`]: a connection. What it reads and writes, and that each request is answered once and
+//!   in order, `ts_http` says; here each request comes to one response, at once or once the node
+//!   has answered.
 //! - [`Scene`]: what a request finds: the time, the node's number and keys. [`Board`]: what a node
 //!   shows: its peers, and counts.
 //!
 //! What is asked of the node has clauses, by the crate's own functions: a path is of one route
-//! (`specs/Routes`); `/v1/verify`, `/v1/check` and the form ask the question that the query and the
-//! body say, or are refused (`question_in`, `question_from`: `specs/Asking`); `/v1/commands` hands
-//! on a command only from whoever shows the secret of a key that may submit it, and is refused with
-//! 401 or 403 else (`begin_command`: `specs/Commanding`). Out of memory is the only error, and
-//! [`HttpFault`].
+//! (`specs/inside/Routes`); `/v1/verify`, `/v1/check` and the form ask the question that the query
+//! and the body say, or are refused (`question_in`, `question_from`: `specs/inside/Asking`);
+//! `/v1/commands` hands on a command only from whoever shows the secret of a key that may submit
+//! it, and is refused with 401 or 403 else (`begin_command`: `specs/inside/Commanding`). Out of
+//! memory is the only error, and [`HttpFault`].
 //!
 //! # Not promised
 //!

@@ -5,7 +5,7 @@ use crate::next::{Next, RowsAsked, Waits, ask};
 use crate::refusing::{error, fault_error, node_failed};
 use crate::request::query_of;
 use crate::response::{Content, Response};
-use crate::verifying::kept;
+use crate::verifying::time_kept;
 use std::alloc::{AllocError, Global};
 use ts_form::{RowsWanted, form_pairs};
 use ts_http::Request;
@@ -99,7 +99,7 @@ fn page(
     let members = head_members(alloc, answer, asked.from, total)?;
     let text = page_text(alloc, &members, &all)?;
     let mut response = Response::json(alloc, 200, text.as_str())?;
-    response.keeps = kept(asked.is_pinned, answer.reply());
+    response.keeps = time_kept(asked.is_pinned, answer.reply());
     Ok(response)
 }
 

@@ -3,7 +3,7 @@
 ghost use Rattle.std.specs.Prelude.{◌≡◌};
 ghost use Rattle.ts_site.specs.declared.next.Next.TheVariants as nexts;
 
-use crate::asking::Asked;
+use crate::asking::AskedQuestion;
 use crate::explaining::Explaining;
 use crate::gauging::Gauging;
 use crate::response::Response;
@@ -41,7 +41,7 @@ pub(crate) struct HomeAsked {
 #[derive(Drop)]
 pub(crate) enum Waits {
     /// A question, for this route.
-    Verdict(Asked, Route),
+    Verdict(AskedQuestion, Route),
     /// A page of rows.
     Rows(RowsAsked),
     /// Whether it answers.
@@ -57,11 +57,11 @@ pub(crate) enum Waits {
     /// The rows of the page, while it knows so many commands.
     HomeRows(HomeAsked, u32),
     /// The question of the page's form.
-    Form(Asked, Vec<Pair>),
+    Form(AskedQuestion, Vec<Pair>),
     /// Rows of the store, among which the anchor of a chain may be that no search found valid.
     Anchors(Explaining),
     /// The same chain under that anchor.
-    Explained(Asked, Vec<Pair>),
+    Explained(AskedQuestion, Vec<Pair>),
     /// How many commands it knows, for the metrics.
     Metrics,
     /// Rows of the store, for the metrics.

@@ -18,7 +18,7 @@ use ts_render::{RowFields, row_fields};
 use ts_wire::Frame;
 
 /// What pages load, which may be kept for an hour.
-fn loaded(alloc: Global, content: Content, text: &str) -> Result<Response, AllocError> {
+fn loaded_response(alloc: Global, content: Content, text: &str) -> Result<Response, AllocError> {
     let body = Vec::from_slice(alloc, text.as_bytes())?;
     let mut response = Response::new(200, content, body);
     response.keeps = Keeps::Hour;
@@ -27,12 +27,12 @@ fn loaded(alloc: Global, content: Content, text: &str) -> Result<Response, Alloc
 
 /// The style of the pages.
 pub(crate) fn style(alloc: Global) -> Result<Response, AllocError> {
-    loaded(alloc, Content::Css, STYLE)
+    loaded_response(alloc, Content::Css, STYLE)
 }
 
 /// The script of the pages.
 pub(crate) fn script(alloc: Global) -> Result<Response, AllocError> {
-    loaded(alloc, Content::JavaScript, SCRIPT)
+    loaded_response(alloc, Content::JavaScript, SCRIPT)
 }
 
 /// Begins a request for the page.

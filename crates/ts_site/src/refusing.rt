@@ -1,7 +1,7 @@
 //! Why a request is not answered as it asks.
 
 ghost use Rattle.std.specs.Prelude.{IfOk, codes};
-ghost use Rattle.ts_site.specs.Response.{IsError, IsLine};
+ghost use Rattle.ts_site.specs.inside.Response.{IsError, IsLine};
 
 use crate::asking::NoQuestion;
 use crate::response::{Content, Response};

@@ -3,8 +3,9 @@
 ghost use Rattle.std.specs.Prelude.{◌≡◌, map};
 ghost use Rattle.ts_http.specs.Request.{field_in};
 ghost use Rattle.std.specs.List.{position};
-ghost use Rattle.ts_site.specs.Request.{bearer_in, bearer_of, is_mark, path_of, query_of, route_in};
-ghost use Rattle.ts_site.specs.Request.{with_field};
+ghost use Rattle.ts_site.specs.inside.Request.{bearer_in, bearer_of, is_mark, path_of, query_of};
+ghost use Rattle.ts_site.specs.inside.Request.{route_in};
+ghost use Rattle.ts_site.specs.inside.Request.{with_field};
 
 use crate::route::{Route, route_of};
 use ts_http::Field;

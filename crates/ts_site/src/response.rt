@@ -1,8 +1,8 @@
 //! Responses.
 
 ghost use Rattle.std.specs.Prelude.{◌++◌, ◌∷◌, [], IfOk, map};
-ghost use Rattle.ts_json.specs.Members.{named, object_of};
-ghost use Rattle.ts_site.specs.Response.{IsJson, IsLine, IsPlain};
+ghost use Rattle.ts_json.specs.Members.{named_value, object_of};
+ghost use Rattle.ts_site.specs.inside.Response.{IsJson, IsLine, IsPlain};
 ghost use Rattle.ts_site.specs.declared.response.Content.TheVariants.{Json};
 
 use crate::route::Methods;
@@ -117,7 +117,7 @@ impl Response {
         status: u16,
         members: &[Member],
     ) -> Result<Response, AllocError>
-        ensures { IfOk result (IsJson status (object_of (map named members.now))) }
+        ensures { IfOk result (IsJson status (object_of (map named_value members.now))) }
     {
         let text = members_text(alloc, members)?;
         Response::json(alloc, status, text.as_str())

@@ -2,7 +2,8 @@
 
 ghost use Rattle.std.specs.Prelude.{◌≡◌, ◌<◌};
 ghost use Rattle.std.specs.Str.{bytes_eq};
-ghost use Rattle.ts_site.specs.Routes.{method_of, methods_of, program_route, route_of, takes};
+ghost use Rattle.ts_site.specs.inside.Routes.{method_of, methods_of, program_route, route_of};
+ghost use Rattle.ts_site.specs.inside.Routes.{takes};
 
 /// What there is, by its path.
 #[derive(Clone, Copy, Debug, PartialEq, Eq)]

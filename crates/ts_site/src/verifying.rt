@@ -1,6 +1,6 @@
 //! Verdicts over HTTP, for programs.
 
-use crate::asking::{Asked, NoQuestion, question_in};
+use crate::asking::{AskedQuestion, NoQuestion, question_in};
 use crate::board::Board;
 use crate::frames::question_frame;
 use crate::next::{Next, Waits, ask};
@@ -15,7 +15,7 @@ use ts_render::{answer_fields, is_final, valid_in};
 use ts_wire::Frame;
 
 /// Asks a question.
-fn ask_question(alloc: Global, asked: Asked, route: Route) -> Result<Next, AllocError> {
+fn ask_question(alloc: Global, asked: AskedQuestion, route: Route) -> Result<Next, AllocError> {
     let frame = question_frame(alloc, &asked.question)?;
     Ok(ask(Waits::Verdict(asked, route), frame))
 }
@@ -42,7 +42,7 @@ fn status_of(route: Route, reply: &Reply) -> u16 {
 }
 
 /// For how long an answer may be kept.
-pub(crate) fn kept(is_pinned: bool, reply: &Reply) -> Keeps {
+pub(crate) fn time_kept(is_pinned: bool, reply: &Reply) -> Keeps {
     if is_pinned && is_final(reply) {
         return Keeps::Always;
     }
@@ -52,7 +52,7 @@ pub(crate) fn kept(is_pinned: bool, reply: &Reply) -> Keeps {
 /// The answer to a question.
 fn verdict(
     alloc: Global,
-    asked: &Asked,
+    asked: &AskedQuestion,
     route: Route,
     answer: &Answer,
 ) -> Result<Response, AllocError> {
@@ -60,14 +60,14 @@ fn verdict(
     let text = answer_text(alloc, &fields)?;
     let status = status_of(route, answer.reply());
     let mut response = Response::json(alloc, status, text.as_str())?;
-    response.keeps = kept(asked.is_pinned, answer.reply());
+    response.keeps = time_kept(asked.is_pinned, answer.reply());
     Ok(response)
 }
 
 /// Goes on once the node has answered.
 pub(crate) fn end_verdict(
     alloc: Global,
-    asked: &Asked,
+    asked: &AskedQuestion,
     route: Route,
     frame: &Frame,
     board: &mut Board,

@@ -13,7 +13,7 @@ use Rattle.ts_codec.proofs.Rows.{that_part, fitting, recoded, and_part, then_par
 use Rattle.ts_codec.proofs.Lists.{counted_part}
 use Rattle.ts_codec.proofs.Values.{oid_part, short_blob}
 use Rattle.ts_store.specs.Purposes.{is_ascending, is_listed, ArePurposes}
-use Rattle.ts_store.specs.Commands.{purposes_encoding, kind_of, content, id_of, encoding, FieldsFit, Fits}
+use Rattle.ts_store.specs.Commands.{purposes_encoding, command_kind, content, id_of, command_encoding, CommandFieldsFit, CommandFits}
 use Rattle.ts_store.specs.Reading.{listed_at, purposes_at, rows, command_at}
 use Rattle.ts_store.specs.declared.command.Command.{Command}
 use Rattle.ts_store.specs.declared.command.Command.TheVariants.{AddAnchor, WithdrawAnchor, LoadCrl, DropCrl, SetPurposes, Noop}
@@ -44,7 +44,9 @@ purposes_part : Part purposes_encoding ArePurposes purposes_at
 unfolding purposes_at
 purposes_part = recoded (kind_part (record { cases = (bare_case None 0 refl tt refl, (case listed_part Some 1 (λ xs fit. (fit, refl, refl)), tt)); again = again })) purposes_encoding same
   where
-    again : (p : Option (List (List ℕ))) (rest : List ℕ) → ArePurposes p → (lookup (form p) ((0, λ o. Some (None, o)) ∷ (1, listed_at into Some) ∷ []) >>= λ fields. fields (listing p ++ rest)) ≡ Some (p, rest)
+    again : (p : Option (List (List ℕ))) (rest : List ℕ) → ArePurposes p
+        → (lookup (form p) ((0, λ o. Some (None, o)) ∷ (1, listed_at into Some) ∷ []) >>= λ fields.
+        fields (listing p ++ rest)) ≡ Some (p, rest)
     again None rest fit = refl
     again (Some xs) rest fit = parts_again listed_part Some xs rest fit
 
@@ -61,9 +63,9 @@ crl_part : Part blob32 (λ c. length c ≤ 4194304) (short_blob_at 4194304)
 crl_part = fitting (short_blob 4194304 (omega arith)) (λ c. length c ≤ 4194304) (λ c good. leb-true (length c) 4194304 good) (λ c fit. le-leb (length c) 4194304 fit)
 
 abbrev HasId : List ℕ → Command → Type 0
-HasId id c = FieldsFit c × (id_of c ≡ id)
+HasId id c = CommandFieldsFit c × (id_of c ≡ id)
 
-again : (c : Command) (rest : List ℕ) → FieldsFit c → (lookup (kind_of c) (rows (id_of c)) >>= λ fields. fields (content c ++ rest)) ≡ Some (c, rest)
+again : (c : Command) (rest : List ℕ) → CommandFieldsFit c → (lookup (command_kind c) (rows (id_of c)) >>= λ fields. fields (content c ++ rest)) ≡ Some (c, rest)
 again (AddAnchor id x) rest fit = parts_again certificate_part (AddAnchor id) x rest fit
 again (WithdrawAnchor id x) rest fit = parts_again (octets_part 32) (WithdrawAnchor id) x rest fit
 again (LoadCrl id x) rest fit = parts_again crl_part (LoadCrl id) x rest fit
@@ -71,7 +73,7 @@ again (DropCrl id x) rest fit = parts_again (octets_part 32) (DropCrl id) x rest
 again (SetPurposes id x p) rest fit = parts_again (and_part (octets_part 32) purposes_part) (λ y. SetPurposes id y.0 y.1) (x, p) rest fit
 again (Noop id) rest fit = refl
 
-kinds : (id : List ℕ) → Kinds kind_of content (HasId id) (rows id)
+kinds : (id : List ℕ) → Kinds command_kind content (HasId id) (rows id)
 kinds id = record {
   cases = case certificate_part (AddAnchor id) 1 (λ x fit. ((fit, refl), refl, refl))
       also case (octets_part 32) (WithdrawAnchor id) 2 (λ x fit. ((fit, refl), refl, refl))
@@ -80,13 +82,13 @@ kinds id = record {
       also case (and_part (octets_part 32) purposes_part) (λ y. SetPurposes id y.0 y.1) 5 (λ y fit. ((fit, refl), refl, refl))
       also bare_case (Noop id) 6 refl (tt, refl) refl
       also tt;
-  again = λ c rest fit. subst (λ (i : List ℕ). (lookup (kind_of c) (rows i) >>= λ fields. fields (content c ++ rest)) ≡ Some (c, rest)) fit.1 (again c rest fit.0);
+  again = λ c rest fit. subst (λ (i : List ℕ). (lookup (command_kind c) (rows i) >>= λ fields. fields (content c ++ rest)) ≡ Some (c, rest)) fit.1 (again c rest fit.0);
 }
 
-pub command_part : Part encoding Fits command_at
+pub command_part : Part command_encoding CommandFits command_at
 unfolding command_at
-command_part = fitting (then_part (octets_part 16) id_of (λ id sixteen. kind_part (kinds id))) Fits (λ c fit. record { id = fit.0; fields = fit.1 }) (λ c fit. (fit.id, fit.fields))
+command_part = fitting (then_part (octets_part 16) id_of (λ id sixteen. kind_part (kinds id))) CommandFits (λ c fit. record { id = fit.0; fields = fit.1 }) (λ c fit. (fit.id, fit.fields))
 
 -- no two commands have one encoding
-pub one_command : (command other : Command) → Fits command → Fits other → encoding command ≡ encoding other → command ≡ other
+pub one_command : (command other : Command) → CommandFits command → CommandFits other → command_encoding command ≡ command_encoding other → command ≡ other
 one_command = one command_part

@@ -4,7 +4,7 @@ use Rattle.std.specs.Prelude.{slice_set, nat_le, option_map}
 use Rattle.std.specs.List.{find}
 use Rattle.ts_store.specs.Anchors.{refuse_if}
 use Rattle.ts_store.specs.Changes.{Becomes}
-use Rattle.ts_store.specs.Lists.{list_in, is_newer, has_slot, replaced, put_by, put_list, place_by}
+use Rattle.ts_store.specs.Lists.{list_in, is_newer, has_slot, replace_slot, put_by, put_list, place_by}
 use Rattle.ts_store.specs.declared.outcome.Refusal.{Refusal}
 use Rattle.ts_store.specs.declared.outcome.Refusal.TheVariants.{OlderCrl, StoreFull}
 use Rattle.ts_store.specs.declared.stored.StoredCrl.{StoredCrl}
@@ -46,7 +46,9 @@ is-found {A} test (x ∷ xs) zero d e more = by (test x) e
     by false h = absurd (zero-less (place_by test xs) h)
 is-found {A} test (x ∷ xs) (suc i) d e more = by (test x) (λ h. is-found test xs i d h (omega (arith, more))) e
   where
-    by : (b : Bool) → (Some i ≡ place_by test xs → find test xs ≡ Some (get_or xs i d)) → Some (suc i) ≡ cond b (Some 0) (option_map suc (place_by test xs)) → cond b (Some x) (find test xs) ≡ Some (get_or xs i d)
+    by : (b : Bool) → (Some i ≡ place_by test xs → find test xs ≡ Some (get_or xs i d))
+        → Some (suc i) ≡ cond b (Some 0) (option_map suc (place_by test xs))
+        → cond b (Some x) (find test xs) ≡ Some (get_or xs i d)
     by true rest h = absurd cc
     by false rest h = rest (one-less i (place_by test xs) h)
 
@@ -61,16 +63,19 @@ is-within {A} test (x ∷ xs) (suc i) e = by (test x) (is-within test xs i) e
     by false rest h = let low = rest (one-less i (place_by test xs) h) in omega (arith, low)
 
 -- a list takes the place of the first one of its slot
-pub set-there : (new : StoredCrl) (lists : List StoredCrl) (i : ℕ) → Some i ≡ place_by (has_slot (list_in new)) lists → i < length lists → slice_set lists i new ≡ replaced new lists
+pub set-there : (new : StoredCrl) (lists : List StoredCrl) (i : ℕ) → Some i ≡ place_by (has_slot (list_in new)) lists → i < length lists → slice_set lists i new ≡ replace_slot new lists
 set-there new [] i e more = absurd (omega (arith, more))
 set-there new (x ∷ xs) zero e more = by (has_slot (list_in new) x) e
   where
-    by : (b : Bool) → Some zero ≡ cond b (Some 0) (option_map suc (place_by (has_slot (list_in new)) xs)) → new ∷ xs ≡ cond b (new ∷ xs) (x ∷ replaced new xs)
+    by : (b : Bool) → Some zero ≡ cond b (Some 0) (option_map suc (place_by (has_slot (list_in new)) xs)) → new ∷ xs ≡ cond b (new ∷ xs) (x ∷ replace_slot new xs)
     by true h = refl
     by false h = absurd (zero-less (place_by (has_slot (list_in new)) xs) h)
 set-there new (x ∷ xs) (suc i) e more = by (has_slot (list_in new) x) (λ h. set-there new xs i h (omega (arith, more))) e
   where
-    by : (b : Bool) → (Some i ≡ place_by (has_slot (list_in new)) xs → slice_set xs i new ≡ replaced new xs) → Some (suc i) ≡ cond b (Some 0) (option_map suc (place_by (has_slot (list_in new)) xs)) → x ∷ slice_set xs i new ≡ cond b (new ∷ xs) (x ∷ replaced new xs)
+    by : (b : Bool) → (Some i ≡ place_by (has_slot (list_in new)) xs
+        → slice_set xs i new ≡ replace_slot new xs)
+        → Some (suc i) ≡ cond b (Some 0) (option_map suc (place_by (has_slot (list_in new)) xs)) → x
+        ∷ slice_set xs i new ≡ cond b (new ∷ xs) (x ∷ replace_slot new xs)
     by true rest h = absurd cc
     by false rest h = ap (λ l. x ∷ l) (rest (one-less i (place_by (has_slot (list_in new)) xs) h))
 
@@ -83,23 +88,35 @@ done-if lists new after true refusal e is = absurd cc
 done-if lists new after false refusal e is = (refl, is)
 
 -- a list of a new slot
-pub is-full : (new : StoredCrl) (lists : List StoredCrl) → None ≡ place_by (has_slot (list_in new)) lists → nat_le 1024 (length lists) ≡ true → Becomes (Some StoreFull) lists lists (put_list new lists)
+pub is-full : (new : StoredCrl) (lists : List StoredCrl)
+    → None ≡ place_by (has_slot (list_in new)) lists → nat_le 1024 (length lists) ≡ true
+    → Becomes (Some StoreFull) lists lists (put_list new lists)
 is-full new lists none full =
-    subst (λ (o : Option StoredCrl). Becomes (Some StoreFull) lists lists (put_by new lists o)) (sym (not-found (has_slot (list_in new)) lists none)) (refused-if lists (lists ++ new ∷ []) (nat_le 1024 (length lists)) StoreFull full)
+    subst (λ (o : Option StoredCrl). Becomes (Some StoreFull) lists lists (put_by new lists o))
+    (sym (not-found (has_slot (list_in new)) lists none))
+    (refused-if lists (lists ++ new ∷ []) (nat_le 1024 (length lists)) StoreFull full)
 
-pub is-last : (new : StoredCrl) (lists after : List StoredCrl) → None ≡ place_by (has_slot (list_in new)) lists → nat_le 1024 (length lists) ≡ false → after ≡ lists ++ new ∷ [] → Becomes None lists after (put_list new lists)
+pub is-last : (new : StoredCrl) (lists after : List StoredCrl)
+    → None ≡ place_by (has_slot (list_in new)) lists → nat_le 1024 (length lists) ≡ false
+    → after ≡ lists ++ new ∷ [] → Becomes None lists after (put_list new lists)
 is-last new lists after none full is =
-    subst (λ (o : Option StoredCrl). Becomes None lists after (put_by new lists o)) (sym (not-found (has_slot (list_in new)) lists none)) (done-if lists (lists ++ new ∷ []) after (nat_le 1024 (length lists)) StoreFull full is)
+    subst (λ (o : Option StoredCrl). Becomes None lists after (put_by new lists o))
+    (sym (not-found (has_slot (list_in new)) lists none))
+    (done-if lists (lists ++ new ∷ []) after (nat_le 1024 (length lists)) StoreFull full is)
 
 -- a list of a held slot
-pub is-older : (new held : StoredCrl) (lists : List StoredCrl) (i : ℕ) → Some i ≡ place_by (has_slot (list_in new)) lists → i < length lists → held ≡ get_or lists i held → is_newer (list_in new) (list_in held) ≡ false
+pub is-older : (new held : StoredCrl) (lists : List StoredCrl) (i : ℕ)
+    → Some i ≡ place_by (has_slot (list_in new)) lists → i < length lists
+    → held ≡ get_or lists i held → is_newer (list_in new) (list_in held) ≡ false
     → Becomes (Some OlderCrl) lists lists (put_list new lists)
 is-older new held lists i place more is older =
     subst (λ (o : Option StoredCrl). Becomes (Some OlderCrl) lists lists (put_by new lists o)) (ap (λ (h : StoredCrl). Some h) is ∙ sym (is-found (has_slot (list_in new)) lists i held place more))
-    (refused-if lists (replaced new lists) (not (is_newer (list_in new) (list_in held))) OlderCrl (ap not older))
+    (refused-if lists (replace_slot new lists) (not (is_newer (list_in new) (list_in held))) OlderCrl (ap not older))
 
-pub is-replaced : (new held : StoredCrl) (lists after : List StoredCrl) (i : ℕ) → Some i ≡ place_by (has_slot (list_in new)) lists → i < length lists → held ≡ get_or lists i held → is_newer (list_in new) (list_in held) ≡ true
+pub is-replaced : (new held : StoredCrl) (lists after : List StoredCrl) (i : ℕ)
+    → Some i ≡ place_by (has_slot (list_in new)) lists → i < length lists
+    → held ≡ get_or lists i held → is_newer (list_in new) (list_in held) ≡ true
     → after ≡ slice_set lists i new → Becomes None lists after (put_list new lists)
 is-replaced new held lists after i place more is newer set =
     subst (λ (o : Option StoredCrl). Becomes None lists after (put_by new lists o)) (ap (λ (h : StoredCrl). Some h) is ∙ sym (is-found (has_slot (list_in new)) lists i held place more))
-    (done-if lists (replaced new lists) after (not (is_newer (list_in new) (list_in held))) OlderCrl (ap not newer) (set ∙ set-there new lists i place more))
+    (done-if lists (replace_slot new lists) after (not (is_newer (list_in new) (list_in held))) OlderCrl (ap not newer) (set ∙ set-there new lists i place more))

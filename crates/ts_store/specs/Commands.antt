@@ -13,13 +13,13 @@ purposes_encoding None = 0 ∷ []
 purposes_encoding (Some oids) = 1 ∷ length oids ∷ flat_map blob8 oids
 
 -- the octet of the kind
-abbrev pub kind_of : Command → ℕ
-kind_of (AddAnchor id certificate) = 1
-kind_of (WithdrawAnchor id anchor) = 2
-kind_of (LoadCrl id crl) = 3
-kind_of (DropCrl id crl) = 4
-kind_of (SetPurposes id anchor purposes) = 5
-kind_of (Noop id) = 6
+abbrev pub command_kind : Command → ℕ
+command_kind (AddAnchor id certificate) = 1
+command_kind (WithdrawAnchor id anchor) = 2
+command_kind (LoadCrl id crl) = 3
+command_kind (DropCrl id crl) = 4
+command_kind (SetPurposes id anchor purposes) = 5
+command_kind (Noop id) = 6
 
 -- what follows the kind
 abbrev pub content : Command → List ℕ
@@ -31,8 +31,8 @@ content (SetPurposes id anchor purposes) = anchor ++ purposes_encoding purposes
 content (Noop id) = []
 
 -- the octet of the kind, and the fields
-abbrev pub fields : Command → List ℕ
-fields command = kind_of command ∷ content command
+abbrev pub command_fields : Command → List ℕ
+command_fields command = command_kind command ∷ content command
 
 -- the id that the client chose
 abbrev pub id_of : Command → List ℕ
@@ -44,19 +44,19 @@ id_of (SetPurposes id anchor purposes) = id
 id_of (Noop id) = id
 
 -- the id, and what it is about
-abbrev pub encoding : Command → List ℕ
-encoding command = id_of command ++ fields command
+abbrev pub command_encoding : Command → List ℕ
+command_encoding command = id_of command ++ command_fields command
 
 -- the fields are within their limits
-abbrev pub FieldsFit : Command → Type 0
-FieldsFit (AddAnchor id certificate) = length certificate ≤ 65536
-FieldsFit (WithdrawAnchor id anchor) = length anchor ≡ 32
-FieldsFit (LoadCrl id crl) = length crl ≤ 4194304
-FieldsFit (DropCrl id crl) = length crl ≡ 32
-FieldsFit (SetPurposes id anchor purposes) = (length anchor ≡ 32) × ArePurposes purposes
-FieldsFit (Noop id) = Unit {0}
+abbrev pub CommandFieldsFit : Command → Type 0
+CommandFieldsFit (AddAnchor id certificate) = length certificate ≤ 65536
+CommandFieldsFit (WithdrawAnchor id anchor) = length anchor ≡ 32
+CommandFieldsFit (LoadCrl id crl) = length crl ≤ 4194304
+CommandFieldsFit (DropCrl id crl) = length crl ≡ 32
+CommandFieldsFit (SetPurposes id anchor purposes) = (length anchor ≡ 32) × ArePurposes purposes
+CommandFieldsFit (Noop id) = Unit {0}
 
 -- 16 octets of id, and fields within their limits
-pub record Fits (command : Command) : Type 0 where
+pub record CommandFits (command : Command) : Type 0 where
   pub id : length (id_of command) ≡ 16
-  pub fields : FieldsFit command
+  pub fields : CommandFieldsFit command

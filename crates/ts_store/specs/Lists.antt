@@ -8,15 +8,15 @@ use Rattle.ts_der.specs.Integer.{twos_complement}
 use Rattle.ts_crl.specs.List.{CertificateList}
 use Rattle.ts_crl.specs.OwnedView.{list_of}
 use Rattle.ts_crl.specs.Slots.{is_same_slot}
-use Rattle.ts_crl.specs.Values.{number_of}
+use Rattle.ts_crl.specs.Values.{crl_number}
 use Rattle.ts_store.specs.Anchors.{refuse_if}
 use Rattle.ts_store.specs.declared.outcome.Refusal.{Refusal}
 use Rattle.ts_store.specs.declared.outcome.Refusal.TheVariants.{OlderCrl, StoreFull, NoCrl}
 use Rattle.ts_store.specs.declared.stored.StoredCrl.{StoredCrl}
 
 -- what is kept of octets that are a list: they, and their SHA-256
-abbrev pub stored : List ℕ → StoredCrl
-stored octets = record { id = sha256 octets; crl = octets }
+abbrev pub stored_crl : List ℕ → StoredCrl
+stored_crl octets = record { id = sha256 octets; crl = octets }
 
 -- the list that is kept
 abbrev pub list_in : StoredCrl → CertificateList
@@ -28,7 +28,7 @@ is_newer_by (Some n) (Some m) later = int_lt (twos_complement m) (twos_complemen
 is_newer_by n m later = later
 
 abbrev pub is_newer : CertificateList → CertificateList → Bool
-is_newer new held = is_newer_by (number_of new) (number_of held)
+is_newer new held = is_newer_by (crl_number new) (crl_number held)
     (int_lt held.tbsCertList.thisUpdate.moment new.tbsCertList.thisUpdate.moment)
 
 -- whether a list that is kept has the slot of another one
@@ -36,16 +36,16 @@ abbrev pub has_slot : CertificateList → StoredCrl → Bool
 has_slot new held = is_same_slot (list_in held) new
 
 -- the list takes the place of the first one that has its slot
-abbrev pub replaced : StoredCrl → List StoredCrl → List StoredCrl
-replaced new [] = []
-replaced new (held ∷ lists) = if has_slot (list_in new) held then new ∷ lists
-    else held ∷ replaced new lists
+abbrev pub replace_slot : StoredCrl → List StoredCrl → List StoredCrl
+replace_slot new [] = []
+replace_slot new (held ∷ lists) = if has_slot (list_in new) held then new ∷ lists
+    else held ∷ replace_slot new lists
 
 -- a list in a new slot goes last; one in a held slot takes the other's place, where it is newer
 abbrev pub put_by : StoredCrl → List StoredCrl → Option StoredCrl → Result (List StoredCrl) Refusal
 put_by new lists None = refuse_if (nat_le 1024 (length lists)) StoreFull (Ok (lists ++ new ∷ []))
 put_by new lists (Some held) = refuse_if (not (is_newer (list_in new) (list_in held))) OlderCrl
-    (Ok (replaced new lists))
+    (Ok (replace_slot new lists))
 
 abbrev pub put_list : StoredCrl → List StoredCrl → Result (List StoredCrl) Refusal
 put_list new lists = put_by new lists (find (has_slot (list_in new)) lists)

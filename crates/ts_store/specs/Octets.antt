@@ -4,7 +4,7 @@ use Rattle.std.specs.Prelude.{ℕ, Bool, true, ◌&&◌, ◌==◌, nat_le, List,
 use Rattle.std.specs.Prelude.{None, if◌then◌else◌}
 use Rattle.std.specs.List.{list_all}
 use Rattle.ts_der.specs.ObjectIdentifier.{is_oid}
-use Rattle.ts_store.specs.Commands.{id_of, encoding}
+use Rattle.ts_store.specs.Commands.{id_of, command_encoding}
 use Rattle.ts_store.specs.Purposes.{is_listed}
 use Rattle.ts_store.specs.declared.command.Command.{Command}
 use Rattle.ts_store.specs.declared.command.Command.TheVariants.{AddAnchor, WithdrawAnchor, LoadCrl}
@@ -28,4 +28,4 @@ abbrev pub is_command : Command → Bool
 is_command command = (length (id_of command) == 16) && are_fields command
 
 unfoldable pub octets_of : Command → List ℕ
-octets_of command = if is_command command then encoding command else []
+octets_of command = if is_command command then command_encoding command else []

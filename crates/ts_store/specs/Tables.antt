@@ -6,7 +6,7 @@ use Rattle.ts_crl.specs.List.{CertificateList}
 use Rattle.ts_crl.specs.Profile.{is_delta}
 use Rattle.ts_crl.specs.Table.{crl_of}
 use Rattle.ts_store.specs.Anchors.{add_anchor, withdraw_anchor, set_purposes}
-use Rattle.ts_store.specs.Lists.{stored, put_list, drop_list}
+use Rattle.ts_store.specs.Lists.{stored_crl, put_list, drop_list}
 use Rattle.ts_store.specs.declared.anchor.TrustAnchor.{TrustAnchor}
 use Rattle.ts_store.specs.declared.command.Command.{Command}
 use Rattle.ts_store.specs.declared.command.Command.TheVariants.{AddAnchor, WithdrawAnchor, LoadCrl}
@@ -51,8 +51,8 @@ refusal_of deltaCrl = DeltaCrl
 abbrev pub load_as : List ℕ → Tables → Result CertificateList ListFault → Result Tables Refusal
 load_as octets tables (Err fault) = Err (refusal_of fault)
 load_as octets tables (Ok c) = if is_delta c
-    then with_deltas tables (put_list (stored octets) tables.deltas)
-    else with_complete tables (put_list (stored octets) tables.complete)
+    then with_deltas tables (put_list (stored_crl octets) tables.deltas)
+    else with_complete tables (put_list (stored_crl octets) tables.complete)
 
 abbrev pub load_crl : List ℕ → Tables → Result Tables Refusal
 load_crl octets tables = load_as octets tables (crl_of octets)

@@ -2,7 +2,7 @@
 
 ghost use Rattle.std.specs.Prelude.{◌≡◌, ◌<◌, ◌≤◌, List, ℕ, Some, length, IfOk, IfSome};
 ghost use Rattle.std.specs.Prelude.{MatchResult};
-ghost use Rattle.ts_store.specs.Commands.{id_of, encoding, Fits};
+ghost use Rattle.ts_store.specs.Commands.{id_of, command_encoding, CommandFits};
 ghost use Rattle.ts_codec.specs.Reading.{whole};
 ghost use Rattle.ts_store.specs.Reading.{command_at};
 ghost use Rattle.ts_store.specs.declared.command.Command.TheVariants.{AddAnchor, LoadCrl};
@@ -137,9 +137,10 @@ impl Command {
         ensures exact { IfOk result (λ read. read ≡ whole (command_at octets.now)) }
         // The octets are the encoding of the command that is read.
         ensures found { IfOk result (λ read. IfSome read
-            (λ command. Fits command × (octets.now ≡ encoding command))) }
+            (λ command. CommandFits command × (octets.now ≡ command_encoding command))) }
         // Octets that encode a command are read as it.
-        ensures only { (command : Command) → Fits command → octets.now ≡ encoding command
+        ensures only { (command : Command) → CommandFits command → octets.now ≡ command_encoding
+            command
             → IfOk result (λ read. read ≡ Some command) }
     {
         read_command(alloc, octets)
@@ -147,7 +148,7 @@ impl Command {
 
     /// Every command has an encoding: its fields are within their limits. Nothing is done.
     pub fn has_encoding(&self)
-        ensures { Fits self.now }
+        ensures { CommandFits self.now }
     {
         has_encoding(self);
     }
@@ -158,8 +159,8 @@ impl Command {
     ///
     /// Out of memory.
     pub fn octets(&self, alloc: Global) -> Result<Vec<u8>, AllocError>
-        ensures encoded { IfOk result (λ octets. octets.items ≡ encoding self.now) }
-        ensures fits { Fits self.now }
+        ensures encoded { IfOk result (λ octets. octets.items ≡ command_encoding self.now) }
+        ensures fits { CommandFits self.now }
     {
         self.has_encoding();
         let mut octets = Vec::new(alloc);

@@ -12,7 +12,7 @@ use std::marker::Model;
 
 /// The first command of an id: its position, and what it came to.
 #[derive(Clone, Copy, Debug, PartialEq, Eq)]
-pub struct First {
+pub struct FirstCommand {
     pub position: u32,
     pub outcome: Outcome,
 }
@@ -23,12 +23,12 @@ pub struct First {
 /// number of steps that grows with the logarithm of theirs.
 #[derive(Drop)]
 pub(crate) struct Ids {
-    firsts: BTreeMap<[u8; 16], First>,
+    firsts: BTreeMap<[u8; 16], FirstCommand>,
 }
 
 impl Model for Ids {
     ghost use Rattle.std.specs.Prelude.{ℕ, List};
-    ghost use Rattle.ts_store.specs.declared.ids.First.{First as Stated};
+    ghost use Rattle.ts_store.specs.declared.ids.FirstCommand.{FirstCommand as Stated};
 
     ghost Value = { List (List ℕ × Stated) };
 
@@ -46,7 +46,7 @@ impl Ids {
     }
 
     /// The first command of an id, if there is one.
-    pub(crate) fn first(&self, id: &[u8; 16]) -> Option<First>
+    pub(crate) fn first(&self, id: &[u8; 16]) -> Option<FirstCommand>
         ensures { result ≡ first_of id.now self.now }
     {
         match self.firsts.get(id) {
@@ -56,7 +56,7 @@ impl Ids {
     }
 
     /// Holds an id for a command.
-    pub(crate) fn hold(&mut self, id: [u8; 16], first: First) -> Result<(), AllocError>
+    pub(crate) fn hold(&mut self, id: [u8; 16], first: FirstCommand) -> Result<(), AllocError>
         ensures held { OnOk result (self.new ≡ with_first id first self.old) }
         ensures memory { OnErr result (self.new ≡ self.old) }
     {
@@ -65,7 +65,7 @@ impl Ids {
     }
 
     /// Puts another command in the place of that of an id that is held, which takes no memory.
-    pub(crate) fn settle(&mut self, id: [u8; 16], first: First)
+    pub(crate) fn settle(&mut self, id: [u8; 16], first: FirstCommand)
         requires { is_some (first_of id self.now) ≡ true }
         ensures { self.new ≡ with_first id first self.old }
     {

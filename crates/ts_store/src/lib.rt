@@ -82,7 +82,7 @@ mod writing;
 pub use anchor::TrustAnchor;
 pub use anchors::{Anchors, MAX_ANCHORS, digest, place_of_anchor};
 pub use command::Command;
-pub use ids::First;
+pub use ids::FirstCommand;
 pub use lists::{Crls, MAX_CRLS, place_of_crl, place_of_slot};
 pub use outcome::{Outcome, Refusal};
 pub use purposes::{MAX_PURPOSES, Purposes};

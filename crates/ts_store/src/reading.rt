@@ -41,7 +41,7 @@ fn crl(alloc: Global, octets: &[u8]) -> Result<(CrlOctets, &[u8]), ReadFault>
 
 /// Purposes that are listed.
 #[tactic(auto, unfolding(crate::specs::Reading::listed_at))]
-fn listed(alloc: Global, octets: &[u8]) -> Result<(Purposes, &[u8]), ReadFault>
+fn listed_purposes(alloc: Global, octets: &[u8]) -> Result<(Purposes, &[u8]), ReadFault>
     ensures { Gives (λ x. (x.0, x.1.now)) result ((listed_at into Some) octets.now) }
 {
     let (count, rest) = octet(octets)?;
@@ -60,7 +60,7 @@ fn purposes(alloc: Global, octets: &[u8]) -> Result<(Purposes, &[u8]), ReadFault
     let (form, rest) = octet(octets)?;
     match form {
         ANY_PURPOSE => Ok((Purposes::any(), rest)),
-        LISTED => listed(alloc, rest),
+        LISTED => listed_purposes(alloc, rest),
         _ => Err(ReadFault::Form),
     }
 }

@@ -6,7 +6,7 @@ ghost use Rattle.ts_store.specs.Store.{step, empty};
 
 use crate::anchor::TrustAnchor;
 use crate::command::Command;
-use crate::ids::{First, Ids};
+use crate::ids::{FirstCommand, Ids};
 use crate::outcome::Outcome;
 use crate::stored::StoredCrl;
 use crate::tables::Tables;
@@ -25,9 +25,9 @@ pub struct Store {
 }
 
 impl Model for Store {
-    ghost use Rattle.ts_store.specs.Store.{State};
+    ghost use Rattle.ts_store.specs.Store.{StoreState};
 
-    ghost Value = { State };
+    ghost Value = { StoreState };
 
     ghost view = { λ s. record { tables = s.tables; ids = s.ids; taken = s.taken } };
 }
@@ -64,7 +64,7 @@ impl Store {
             return Ok(Outcome::Repeated(first.position));
         }
         let outcome = Outcome::Applied;
-        self.ids.hold(id, First { position, outcome })?;
+        self.ids.hold(id, FirstCommand { position, outcome })?;
         let refusal = match self.tables.change(self.alloc, command) {
             Ok(refusal) => refusal,
             Err(error) => {
@@ -77,14 +77,14 @@ impl Store {
             None => Ok(outcome),
             Some(refusal) => {
                 let outcome = Outcome::Refused(refusal);
-                self.ids.settle(id, First { position, outcome });
+                self.ids.settle(id, FirstCommand { position, outcome });
                 Ok(outcome)
             }
         }
     }
 
     /// The first command that had an id, if one had it.
-    pub fn first(&self, id: &[u8; 16]) -> Option<First>
+    pub fn first(&self, id: &[u8; 16]) -> Option<FirstCommand>
         ensures { result ≡ first_of id.now self.now.ids }
     {
         self.ids.first(id)

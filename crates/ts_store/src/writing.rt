@@ -1,7 +1,8 @@
 //! Commands are written.
 
 ghost use Rattle.std.specs.Prelude.{◌≡◌, ◌++◌, length, OnOk};
-ghost use Rattle.ts_store.specs.Commands.{purposes_encoding, fields, encoding, FieldsFit, Fits};
+ghost use Rattle.ts_store.specs.Commands.{purposes_encoding, command_fields, command_encoding};
+ghost use Rattle.ts_store.specs.Commands.{CommandFieldsFit, CommandFits};
 
 use crate::command::Command;
 use crate::kinds::{
@@ -28,7 +29,7 @@ fn push_purposes(out: &mut Vec<u8>, purposes: &Purposes) -> Result<(), AllocErro
 
 /// Writes the kind of a command and its fields.
 fn push_fields(out: &mut Vec<u8>, command: &Command) -> Result<(), AllocError>
-    ensures { OnOk result (out.new.items ≡ out.old.items ++ fields command.now) }
+    ensures { OnOk result (out.new.items ≡ out.old.items ++ command_fields command.now) }
 {
     match command {
         Command::AddAnchor { certificate, .. } => {
@@ -63,7 +64,7 @@ fn push_fields(out: &mut Vec<u8>, command: &Command) -> Result<(), AllocError>
 
 /// Writes a command.
 pub(crate) fn push_encoding(out: &mut Vec<u8>, command: &Command) -> Result<(), AllocError>
-    ensures { OnOk result (out.new.items ≡ out.old.items ++ encoding command.now) }
+    ensures { OnOk result (out.new.items ≡ out.old.items ++ command_encoding command.now) }
 {
     out.extend_from_slice(&command.id())?;
     push_fields(out, command)?;
@@ -82,7 +83,7 @@ fn is_digest(digest: [u8; 32])
 
 /// The fields of each command have an encoding.
 fn fields_have_encoding(command: &Command)
-    ensures { FieldsFit command.now }
+    ensures { CommandFieldsFit command.now }
 {
     match command {
         Command::AddAnchor { certificate, .. } => {
@@ -107,7 +108,7 @@ fn fields_have_encoding(command: &Command)
 
 /// Each command has an encoding.
 pub(crate) fn has_encoding(command: &Command)
-    ensures { Fits command.now }
+    ensures { CommandFits command.now }
 {
     is_id(command.id());
     fields_have_encoding(command);

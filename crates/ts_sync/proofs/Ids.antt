@@ -58,7 +58,9 @@ pub has_without : (x : List ℕ) (xs : List (List ℕ)) (id : List ℕ) → has 
 has_without x [] id = refl
 has_without x (y ∷ ys) id = by (bytes_eq y x) refl (has_without x ys id)
   where
-    by : (g : Bool) → bytes_eq y x ≡ g → has (without x ys) id ≡ (has ys id && not (bytes_eq id x)) → has (cond (not g) (y ∷ without x ys) (without x ys)) id ≡ ((bytes_eq id y || has ys id) && not (bytes_eq id x))
+    by : (g : Bool) → bytes_eq y x ≡ g → has (without x ys) id ≡ (has ys id && not (bytes_eq id x))
+        → has (cond (not g) (y ∷ without x ys) (without x ys)) id ≡
+        ((bytes_eq id y || has ys id) && not (bytes_eq id x))
     by true g rest = goes (bytes_eq id x) refl
       where
         goes : (e : Bool) → bytes_eq id x ≡ e → has (without x ys) id ≡ ((bytes_eq id y || has ys id) && not (bytes_eq id x))
@@ -82,7 +84,10 @@ pub has_absent : (ids others : List (List ℕ)) (id : List ℕ) → has (absent 
 has_absent [] others id = refl
 has_absent (first ∷ ids) others id = by (has others first) refl (has_absent ids others id) (has_absent ids (others ++ first ∷ []) id)
   where
-    by : (b : Bool) → has others first ≡ b → has (absent others ids) id ≡ (has ids id && not (has others id)) → has (absent (others ++ first ∷ []) ids) id ≡ (has ids id && not (has (others ++ first ∷ []) id))
+    by : (b : Bool) → has others first ≡ b
+        → has (absent others ids) id ≡ (has ids id && not (has others id))
+        → has (absent (others ++ first ∷ []) ids) id ≡
+        (has ids id && not (has (others ++ first ∷ []) id))
         → has (cond b (absent others ids) (first ∷ absent (others ++ first ∷ []) ids)) id ≡ ((bytes_eq id first || has ids id) && not (has others id))
     by true is rest more = left_out (bytes_eq id first) (has ids id) (has others id) (has (absent others ids) id) (λ e. ap (has others) (same id first e) ∙ is) rest
     by false is rest more =

@@ -1,7 +1,7 @@
 //! Plans.
 
 ghost use Rattle.std.specs.Prelude.{◌≡◌, ◌++◌, List, ℕ, map, IfOk, OnOk};
-ghost use Rattle.ts_sync.specs.Plan.{absent, aim, brings, chosen, has, kept_in, plan, step};
+ghost use Rattle.ts_sync.specs.Plan.{absent, aim, brings, chosen_ids, has, kept_in, plan, step};
 
 use std::alloc::{AllocError, Global};
 
@@ -16,7 +16,7 @@ pub struct Holding {
 
 /// What a step does.
 #[derive(Clone, Copy, Debug, PartialEq, Eq)]
-pub enum Kind {
+pub enum StepKind {
     /// Adds an anchor.
     Add,
     /// Loads a CRL.
@@ -27,22 +27,22 @@ pub enum Kind {
     Withdraw,
 }
 
-impl Kind {
+impl StepKind {
     /// Whether something comes into the store.
     pub fn brings(self) -> bool
         ensures { result ≡ brings self }
     {
         match self {
-            Kind::Add | Kind::Load => true,
-            Kind::Drop | Kind::Withdraw => false,
+            StepKind::Add | StepKind::Load => true,
+            StepKind::Drop | StepKind::Withdraw => false,
         }
     }
 }
 
 /// A step of a plan.
 #[derive(Clone, Copy, Debug, PartialEq, Eq)]
-pub struct Step {
-    pub kind: Kind,
+pub struct PlanStep {
+    pub kind: StepKind,
     /// The id of the anchor or of the CRL.
     pub id: [u8; 32],
 }
@@ -68,11 +68,11 @@ fn absent(alloc: Global, others: &[[u8; 32]], ids: &[[u8; 32]]) -> Result<Vec<[u
 }
 
 /// Puts a step of a kind for each id behind others.
-fn push_steps(steps: &mut Vec<Step>, kind: Kind, ids: &[[u8; 32]]) -> Result<(), AllocError>
+fn push_steps(steps: &mut Vec<PlanStep>, kind: StepKind, ids: &[[u8; 32]]) -> Result<(), AllocError>
     ensures { OnOk result (steps.new.items ≡ steps.old.items ++ map (step kind) ids.now) }
 {
     for id in ids {
-        steps.push(Step { kind, id: *id })?;
+        steps.push(PlanStep { kind, id: *id })?;
     }
     Ok(())
 }
@@ -82,24 +82,24 @@ fn push_steps(steps: &mut Vec<Step>, kind: Kind, ids: &[[u8; 32]]) -> Result<(),
 /// # Errors
 ///
 /// Out of memory.
-pub fn plan(alloc: Global, held: &Holding, wanted: &Holding) -> Result<Vec<Step>, AllocError>
+pub fn plan(alloc: Global, held: &Holding, wanted: &Holding) -> Result<Vec<PlanStep>, AllocError>
     ensures { IfOk result (λ steps. steps.items ≡ plan (kept_in held.now) (kept_in wanted.now)) }
 {
     let mut steps = Vec::new(alloc);
     let added = absent(alloc, &held.anchors, &wanted.anchors)?;
-    push_steps(&mut steps, Kind::Add, &added)?;
+    push_steps(&mut steps, StepKind::Add, &added)?;
     let loaded = absent(alloc, &held.crls, &wanted.crls)?;
-    push_steps(&mut steps, Kind::Load, &loaded)?;
+    push_steps(&mut steps, StepKind::Load, &loaded)?;
     let dropped = absent(alloc, &wanted.crls, &held.crls)?;
-    push_steps(&mut steps, Kind::Drop, &dropped)?;
+    push_steps(&mut steps, StepKind::Drop, &dropped)?;
     let withdrawn = absent(alloc, &wanted.anchors, &held.anchors)?;
-    push_steps(&mut steps, Kind::Withdraw, &withdrawn)?;
+    push_steps(&mut steps, StepKind::Withdraw, &withdrawn)?;
     Ok(steps)
 }
 
 /// The ids that are named; where none are, those that are held.
 fn chosen(alloc: Global, held: &[[u8; 32]], named: &[[u8; 32]]) -> Result<Vec<[u8; 32]>, AllocError>
-    ensures { IfOk result (λ ids. ids.items ≡ chosen held.now named.now) }
+    ensures { IfOk result (λ ids. ids.items ≡ chosen_ids held.now named.now) }
 {
     if named.is_empty() {
         return Vec::from_slice(alloc, held);
@@ -118,7 +118,7 @@ pub fn plan_named(
     held: &Holding,
     anchors: &[[u8; 32]],
     crls: &[[u8; 32]],
-) -> Result<Vec<Step>, AllocError>
+) -> Result<Vec<PlanStep>, AllocError>
     ensures { IfOk result (λ steps. steps.items
         ≡ plan (kept_in held.now) (aim (kept_in held.now) anchors.now crls.now)) }
 {

@@ -63,7 +63,9 @@ module _ {C : Type 0} (config : Config) (P : C → Type 0) (nodes : ℕ → Node
         message = from_all config.me (New (Took p b c ∷ [])) config.nodes (Accepted p b c) (has_right (nodes config.me).facts (Took p b c ∷ []) (Took p b c) (inl refl), λ h. h);
       }
 
-  accepts_right : (from p b : ℕ) (c : C) (t : Option (Vote C)) → Sent sent from (Accept p b c) → promised_ballot p (nodes config.me).facts ≤ b → IsGreatest (nodes config.me).facts p t → Right (accept_or_repeat config p b c t)
+  accepts_right : (from p b : ℕ) (c : C) (t : Option (Vote C)) → Sent sent from (Accept p b c)
+      → promised_ballot p (nodes config.me).facts ≤ b → IsGreatest (nodes config.me).facts p t
+      → Right (accept_or_repeat config p b c t)
   accepts_right from p b c None came le g = takes_right from p b c came le
   accepts_right from p b c (Some v) came le g =
       by_test Right (v.ballot == b) (only_messages (broadcast config.me config.nodes (Accepted p b v.command))) (accept config p b c)

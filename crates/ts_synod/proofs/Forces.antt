@@ -69,7 +69,9 @@ taken_is (Promised q b ∷ fs) p = skip (Promised q b) fs p (taken_vote p fs) (�
 taken_is (Chosen q c ∷ fs) p = skip (Chosen q c) fs p (taken_vote p fs) (λ d c e. absurd (cc)) (taken_is fs p)
 taken_is (Took q b c ∷ fs) p =
     by_test (λ t. IsGreatest (Took q b c ∷ fs) p (greater_vote t (taken_vote p fs))) (q == p) (Some (record { ballot = b; command = c })) None
-    (λ e. subst (λ k. IsGreatest (Took k b c ∷ fs) p (greater_vote (Some (record { ballot = b; command = c })) (taken_vote p fs))) (sym ((Decides-eqb q p).0 e)) (found fs p b c (taken_vote p fs) (taken_is fs p)))
+    (λ e. subst (λ k. IsGreatest (Took k b c ∷ fs) p
+    (greater_vote (Some (record { ballot = b; command = c })) (taken_vote p fs)))
+    (sym ((Decides-eqb q p).0 e)) (found fs p b c (taken_vote p fs) (taken_is fs p)))
     (λ e. skip (Took q b c) fs p (taken_vote p fs) (λ d x s. true≢false (sym ((Decides-eqb q p).1 (ap place_in s)) ∙ e)) (taken_is fs p))
 
 pub learned_is : {C : Type 0} (fs : List (Fact C)) (p : ℕ) (c : C) → learned_command p fs ≡ Some c → Has fs (Chosen p c)

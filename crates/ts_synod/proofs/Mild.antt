@@ -72,8 +72,12 @@ module _ {C : Type 0} (n : ℕ) (P : C → Type 0) (nodes : ℕ → Node C) (sen
       none a to body k = (h.message a to body k).1.1
 
   -- a state that was right only_state so
-  pub state_same : (s : Effect C) → VolatileOk P (nodes i).facts sent i s.volatile → (new : List (Fact C)) (more : List (Message C)) → ((f : Fact C) → Has s.facts f → Has new f) → NoAccept more → VolatileOk P ((nodes i).facts ++ new) (sent ++ more) i s.volatile
-  state_same s ok new more in' none = volatile_kept P (nodes i).facts ((nodes i).facts ++ new) sent more i s.volatile (λ f k. has_left (nodes i).facts new f k) (λ r. none_fresh more none (ballot i r)) ok
+  pub state_same : (s : Effect C) → VolatileOk P (nodes i).facts sent i s.volatile
+      → (new : List (Fact C)) (more : List (Message C)) → ((f : Fact C) → Has s.facts f → Has new f)
+      → NoAccept more → VolatileOk P ((nodes i).facts ++ new) (sent ++ more) i s.volatile
+  state_same s ok new more in' none =
+      volatile_kept P (nodes i).facts ((nodes i).facts ++ new) sent more i s.volatile
+      (λ f k. has_left (nodes i).facts new f k) (λ r. none_fresh more none (ballot i r)) ok
 
   pub mild_quiet : (volatile : Volatile C) → VolatileOk P (nodes i).facts sent i volatile → Mild n P nodes sent i (no_effect volatile)
   mild_quiet volatile ok = record { fact = λ f h. absurd h; message = λ a to body h. absurd h; state = state_same (no_effect volatile) ok }
@@ -92,8 +96,14 @@ pub record Plain {C : Type 0} (n : ℕ) (P : C → Type 0) (nodes : ℕ → Node
   pub fact : (f : Fact C) → Has out.facts f → NewFact n nodes sent i f
   pub message : AllFrom i (λ body. NewBody n P nodes sent i out.facts body × (IsAccept body → ⊥)) out.messages
 
-pub plain_mild : {C : Type 0} (n : ℕ) (P : C → Type 0) (nodes : ℕ → Node C) (sent : List (Message C)) (i : ℕ) (volatile : Volatile C) (out : Output C) → VolatileOk P (nodes i).facts sent i volatile → Plain n P nodes sent i out → Mild n P nodes sent i (output_effect volatile out)
+pub plain_mild : {C : Type 0} (n : ℕ) (P : C → Type 0) (nodes : ℕ → Node C)
+    (sent : List (Message C)) (i : ℕ) (volatile : Volatile C) (out : Output C)
+    → VolatileOk P (nodes i).facts sent i volatile → Plain n P nodes sent i out
+    → Mild n P nodes sent i (output_effect volatile out)
 plain_mild n P nodes sent i volatile out ok h = record { fact = h.fact; message = h.message; state = state_same n P nodes sent i (output_effect volatile out) ok }
 
-pub answers_plain : {C : Type 0} (n : ℕ) (P : C → Type 0) (nodes : ℕ → Node C) (sent : List (Message C)) (i : ℕ) (messages : List (Message C)) → AllFrom i (λ body. NewBody n P nodes sent i [] body × (IsAccept body → ⊥)) messages → Plain n P nodes sent i (only_messages messages)
+pub answers_plain : {C : Type 0} (n : ℕ) (P : C → Type 0) (nodes : ℕ → Node C)
+    (sent : List (Message C)) (i : ℕ) (messages : List (Message C))
+    → AllFrom i (λ body. NewBody n P nodes sent i [] body × (IsAccept body → ⊥)) messages
+    → Plain n P nodes sent i (only_messages messages)
 answers_plain n P nodes sent i messages h = record { fact = λ f k. absurd k; message = h }

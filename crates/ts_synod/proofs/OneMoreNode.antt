@@ -11,9 +11,14 @@ broadcast_more me n body = rw add-one refl
 pub skips_me : {C : Type 0} (me n : ℕ) (body : Body C) → n + 1 ≡ me → broadcast_to_others me (n + 1) body ≡ broadcast_to_others me n body
 skips_me me n body e =
     let k : suc n ≡ me = omega arith in
-    rw add-one (by_test (λ x. x ≡ broadcast_to_others me n body) (suc n == me) (broadcast_to_others me n body) (broadcast_to_others me n body ++ send me (suc n) body ∷ []) (λ _. refl) (λ d. absurd (true≢false (sym ((Decides-eqb (suc n) me).1 k) ∙ d))))
+    rw add-one (by_test (λ x. x ≡ broadcast_to_others me n body) (suc n == me)
+    (broadcast_to_others me n body) (broadcast_to_others me n body ++ send me (suc n) body ∷ [])
+    (λ _. refl) (λ d. absurd (true≢false (sym ((Decides-eqb (suc n) me).1 k) ∙ d))))
 
 pub reaches_other : {C : Type 0} (me n : ℕ) (body : Body C) → n + 1 ≢ me → broadcast_to_others me (n + 1) body ≡ broadcast_to_others me n body ++ send me (n + 1) body ∷ []
 reaches_other me n body ne =
     let k : suc n ≢ me = λ e. ne (omega arith) in
-    rw add-one (by_test (λ x. x ≡ broadcast_to_others me n body ++ send me (suc n) body ∷ []) (suc n == me) (broadcast_to_others me n body) (broadcast_to_others me n body ++ send me (suc n) body ∷ []) (λ d. absurd (k ((Decides-eqb (suc n) me).0 d))) (λ _. refl))
+    rw add-one (by_test (λ x. x ≡ broadcast_to_others me n body ++ send me (suc n) body ∷ [])
+    (suc n == me) (broadcast_to_others me n body)
+    (broadcast_to_others me n body ++ send me (suc n) body ∷ [])
+    (λ d. absurd (k ((Decides-eqb (suc n) me).0 d))) (λ _. refl))

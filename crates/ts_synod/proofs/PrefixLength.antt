@@ -12,12 +12,18 @@ leads : {C : Type 0} (k p : ℕ) (learned : ℕ → Option C) → Leads k p lear
 leads zero p learned = record { below = λ q l. absurd (omega arith); gap = inl refl; most = omega arith }
 leads {C} (suc k) p learned = go (leads k (suc p) learned) (learned p) refl
   where
-    go : Leads k (suc p) learned (length (leading k (suc p) learned)) → (o : Option C) → learned p ≡ o → Leads (suc k) p learned (length {A = C} (elim o [ None ↦ [] | Some c ↦ c ∷ leading k (suc p) learned ]))
+    go : Leads k (suc p) learned (length (leading k (suc p) learned)) → (o : Option C)
+        → learned p ≡ o → Leads (suc k) p learned
+        (length {A = C} (elim o [ None ↦ [] | Some c ↦ c ∷ leading k (suc p) learned ]))
     go rest None e = record { below = λ q l. absurd (omega arith); gap = inr (subst (λ q. learned q ≡ None) (let z : p ≡ p + 0 = omega arith in z) e); most = omega arith }
     go rest (Some c) e =
         record {
           below = below;
-          gap = ⊎_elim (λ (f : length (leading k (suc p) learned) ≡ k). inl (omega arith)) (λ (f : learned (suc p + length (leading k (suc p) learned)) ≡ None). inr (subst (λ q. learned q ≡ None) (let z : suc p + length (leading k (suc p) learned) ≡ p + suc (length (leading k (suc p) learned)) = omega arith in z) f)) rest.gap;
+          gap = ⊎_elim (λ (f : length (leading k (suc p) learned) ≡ k). inl (omega arith))
+              (λ (f : learned (suc p + length (leading k (suc p) learned)) ≡ None). inr
+              (subst (λ q. learned q ≡ None)
+              (let z : suc p + length (leading k (suc p) learned) ≡ p + suc
+              (length (leading k (suc p) learned)) = omega arith in z) f)) rest.gap;
           most = let m = rest.most in omega arith;
         }
       where

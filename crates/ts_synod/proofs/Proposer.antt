@@ -9,7 +9,10 @@ use Rattle.ts_synod.specs.Lists.{Has}
 use Rattle.ts_synod.specs.Ballot.{ballot}
 use Rattle.ts_synod.specs.Config.{Config}
 use Rattle.ts_synod.specs.Force.{used_round}
-use Rattle.ts_synod.specs.Proposer.{ProposerState, ProposerStep, Round, after_growth, begin_round, drop_wanted, end_round, greatest_round, is_current, on_busy, on_growth, only_state, propose_again, rounds_are_exhausted, with_round}
+use Rattle.ts_synod.specs.Proposer.{ProposerState, ProposerStep, Round, after_growth, begin_round}
+use Rattle.ts_synod.specs.Proposer.{drop_wanted, end_round, greatest_round, is_current, on_busy}
+use Rattle.ts_synod.specs.Proposer.{on_growth, only_state, propose_again, rounds_are_exhausted}
+use Rattle.ts_synod.specs.Proposer.{with_round}
 use Rattle.ts_synod.specs.Node.{Node, Volatile, proposer_effect}
 use Rattle.ts_synod.proofs.Sets.{has_left, has_right, by_test}
 use Rattle.ts_synod.proofs.Forces.{used_bound}
@@ -39,7 +42,9 @@ pub record Starts {C : Type 0} (P : C → Type 0) (nodes : ℕ → Node C) (sent
   pub message : AllFrom i IsPrepare m.messages
   pub state : (new : List (Fact C)) (more : List (Message C)) → ((f : Fact C) → Has m.facts f → Has new f) → NoAccept more → ProposerOk P ((nodes i).facts ++ new) (sent ++ more) i m.state
 
-pub prepare_new : {C : Type 0} (n : ℕ) (P : C → Type 0) (nodes : ℕ → Node C) (sent : List (Message C)) (i : ℕ) (facts : List (Fact C)) (body : Body C) → IsPrepare body → NewBody n P nodes sent i facts body × (IsAccept body → ⊥)
+pub prepare_new : {C : Type 0} (n : ℕ) (P : C → Type 0) (nodes : ℕ → Node C)
+    (sent : List (Message C)) (i : ℕ) (facts : List (Fact C)) (body : Body C) → IsPrepare body
+    → NewBody n P nodes sent i facts body × (IsAccept body → ⊥)
 prepare_new n P nodes sent i facts (Prepare p b) h = (tt, λ k. k)
 prepare_new n P nodes sent i facts (Promise p b t) h = absurd h
 prepare_new n P nodes sent i facts (Busy p b above) h = absurd h
@@ -58,7 +63,9 @@ module _ {C : Type 0} (config : Config) (P : C → Type 0) (nodes : ℕ → Node
   abbrev pub StateOk : ProposerState C → Type 0
   StateOk = ProposerOk P (nodes config.me).facts sent config.me
 
-  pub starts_mild : (volatile : Volatile C) (m : ProposerStep C) → ReceivedOk sent volatile.received → Starts P nodes sent config.me m → Mild config.nodes P nodes sent config.me (proposer_effect volatile m)
+  pub starts_mild : (volatile : Volatile C) (m : ProposerStep C) → ReceivedOk sent volatile.received
+      → Starts P nodes sent config.me m
+      → Mild config.nodes P nodes sent config.me (proposer_effect volatile m)
   starts_mild volatile m received h =
       record {
         fact = λ f k. used_new config.nodes nodes sent config.me f (h.fact f k);
@@ -71,7 +78,10 @@ module _ {C : Type 0} (config : Config) (P : C → Type 0) (nodes : ℕ → Node
       record {
         fact = λ f h. absurd h;
         message = λ a to body h. absurd h;
-        state = λ new more in' none. proposing_kept P (nodes config.me).facts ((nodes config.me).facts ++ new) sent more config.me state (λ f k. has_left (nodes config.me).facts new f k) (λ r. none_fresh more none (ballot config.me r)) ok;
+        state = λ new more in' none. proposing_kept P (nodes config.me).facts
+            ((nodes config.me).facts ++ new) sent more config.me state
+            (λ f k. has_left (nodes config.me).facts new f k)
+            (λ r. none_fresh more none (ballot config.me r)) ok;
       }
 
   -- a round that was never used has sent no Accept
@@ -84,7 +94,10 @@ module _ {C : Type 0} (config : Config) (P : C → Type 0) (nodes : ℕ → Node
       let is : k.round ≡ r = omega arith in
       never (subst (λ x. Has (nodes x).facts (Used r)) at (subst (λ x. Has (nodes a).facts (Used x)) is k.used))
 
-  pub begins_starts : config.me < 16 → Safe config.nodes P nodes sent → (state : ProposerState C) (p : ℕ) (c : C) → P c → Starts P nodes sent config.me (begin_round config (used_round (nodes config.me).facts) state p c)
+  pub begins_starts : config.me < 16 → Safe config.nodes P nodes sent
+      → (state : ProposerState C) (p : ℕ) (c : C) → P c
+      → Starts P nodes sent config.me
+      (begin_round config (used_round (nodes config.me).facts) state p c)
   begins_starts low h state p c holds =
       let r = suc (greatest_round (used_round (nodes config.me).facts) state) in
       record {
@@ -108,7 +121,10 @@ module _ {C : Type 0} (config : Config) (P : C → Type 0) (nodes : ℕ → Node
       never : Has (nodes config.me).facts (Used (suc (greatest_round (used_round (nodes config.me).facts) state))) → ⊥
       never k = let l = used_bound (nodes config.me).facts (suc (greatest_round (used_round (nodes config.me).facts) state)) k in omega arith
 
-  pub growth_starts : config.me < 16 → Safe config.nodes P nodes sent → (state : ProposerState C) (next : Option ℕ) → StateOk state → Starts P nodes sent config.me (on_growth config (used_round (nodes config.me).facts) state next)
+  pub growth_starts : config.me < 16 → Safe config.nodes P nodes sent
+      → (state : ProposerState C) (next : Option ℕ) → StateOk state
+      → Starts P nodes sent config.me
+      (on_growth config (used_round (nodes config.me).facts) state next)
   growth_starts low h state next ok = by state.wanted ok.wanted next
     where
       dropped : Starts P nodes sent config.me (drop_wanted state)
@@ -117,7 +133,9 @@ module _ {C : Type 0} (config : Config) (P : C → Type 0) (nodes : ℕ → Node
       go : (c : C) → P c → (o : Option ℕ) → Starts P nodes sent config.me (propose_again config (used_round (nodes config.me).facts) state c o)
       go c holds None = dropped
       go c holds (Some p) =
-          by_test (Starts P nodes sent config.me) (rounds_are_exhausted (used_round (nodes config.me).facts) state) (drop_wanted state) (begin_round config (used_round (nodes config.me).facts) state p c)
+          by_test (Starts P nodes sent config.me)
+          (rounds_are_exhausted (used_round (nodes config.me).facts) state) (drop_wanted state)
+          (begin_round config (used_round (nodes config.me).facts) state p c)
           (λ _. dropped)
           (λ _. begins_starts low h state p c holds)
 

@@ -1,5 +1,7 @@
 -- A step depends on the force of the facts alone.
-use Rattle.std.proofs.Common.{ℕ, suc, max, List, [], Option, Some, None, nat_lt, refl, sym, ap, subst, arith, slice_get, length, append-nil, append_assoc, ◌≡◌, ◌∷◌, ◌++◌, ◌==◌, ◌&&◌, ◌∙◌, if◌then◌else◌}
+use Rattle.std.proofs.Common.{ℕ, suc, max, List, [], Option, Some, None, nat_lt, refl, sym, ap}
+use Rattle.std.proofs.Common.{subst, arith, slice_get, length, append-nil, append_assoc, ◌≡◌, ◌∷◌}
+use Rattle.std.proofs.Common.{◌++◌, ◌==◌, ◌&&◌, ◌∙◌, if◌then◌else◌}
 use Rattle.std.proofs.lemmas.Bool.Decides.{nat_tests}
 use Rattle.ts_synod.specs.declared.message.Body.TheVariants.{Accept, Accepted, Ask, Busy, Give, Prepare, Promise}
 use Rattle.ts_synod.specs.declared.message.Body.{Body}
@@ -13,7 +15,11 @@ use Rattle.ts_synod.specs.Store.{Settling, Store, settling}
 use Rattle.ts_synod.specs.Acceptor.{only_messages}
 use Rattle.ts_synod.specs.Proposer.{greatest_round, on_growth, propose}
 use Rattle.ts_synod.specs.Log.{LogStep, catch_up, has_grown, next_position, on_accepted, on_ask, on_give, prefix}
-use Rattle.ts_synod.specs.Node.{CatchUp, Deliver, Done, Effect, Input, Node, Outcome, Prefix, Question, Status, Submit, Volatile, log_effect, no_effect, on_body, on_delivery, on_question, outcome_reply, output_effect, position_for_wanted, reply_only, start_reply, step, submit_at, submit_unless_settled, with_reply}
+use Rattle.ts_synod.specs.Node.{CatchUp, Deliver, Done, Effect, Input, Node, Outcome, Prefix}
+use Rattle.ts_synod.specs.Node.{Question, Status, Submit, Volatile, log_effect, no_effect, on_body}
+use Rattle.ts_synod.specs.Node.{on_delivery, on_question, outcome_reply, output_effect}
+use Rattle.ts_synod.specs.Node.{position_for_wanted, reply_only, start_reply, step, submit_at}
+use Rattle.ts_synod.specs.Node.{submit_unless_settled, with_reply}
 use Rattle.ts_synod.proofs.Sets.{by_test}
 use Rattle.ts_synod.proofs.Forces.{promised_push}
 
@@ -60,7 +66,9 @@ same_push fs gs f h =
 pub same_append : {C : Type 0} (fs gs more : List (Fact C)) → SameForce fs gs → SameForce (fs ++ more) (gs ++ more)
 same_append fs gs [] same = subst (λ x. SameForce x (gs ++ [])) (sym (append-nil fs)) (subst (SameForce fs) (sym (append-nil gs)) same)
 same_append fs gs (f ∷ more) same =
-    subst (λ x. SameForce x (gs ++ f ∷ more)) (append_assoc fs (f ∷ []) more) (subst (SameForce ((fs ++ f ∷ []) ++ more)) (append_assoc gs (f ∷ []) more) (same_append (fs ++ f ∷ []) (gs ++ f ∷ []) more (same_push fs gs f same)))
+    subst (λ x. SameForce x (gs ++ f ∷ more)) (append_assoc fs (f ∷ []) more)
+    (subst (SameForce ((fs ++ f ∷ []) ++ more)) (append_assoc gs (f ∷ []) more)
+    (same_append (fs ++ f ∷ []) (gs ++ f ∷ []) more (same_push fs gs f same)))
 
 pub same_log : {C : Type 0} (fs gs : List (Fact C)) → SameForce fs gs → log_of fs ≡ log_of gs
 same_log fs gs same = λ i p. same.learned p i
@@ -99,7 +107,9 @@ module _ {C O T Q V : Type 0} (store : Store C O T Q V) (config : Config) (fs gs
       go : (o : Option (Message C)) → with_reply {O = O} {Q = Q} {V = V} (on_delivery store config (node_of fs) o) Done ≡ with_reply (on_delivery store config (node_of gs) o) Done
       go None = refl
       go (Some m) = ap (λ (a : Effect C). with_reply (if (m.to == config.me) && is_node config.nodes m.from then a else no_effect volatile) Done) (same_body m.from m.body)
-  same_step sent (Submit c) = same_submits c (settling store (prefix (log_of fs)) (store.id_of c)) ∙ ap (λ k. submit_unless_settled store config (node_of gs) c (settling store (prefix k) (store.id_of c))) (same_log fs gs same)
+  same_step sent (Submit c) = same_submits c (settling store (prefix (log_of fs)) (store.id_of c))
+      ∙ ap (λ k. submit_unless_settled store config (node_of gs) c
+      (settling store (prefix k) (store.id_of c))) (same_log fs gs same)
   same_step sent (Question k q) = ap (λ x. reply_only volatile (on_question store (prefix x) k q)) (same_log fs gs same)
   same_step sent (Outcome id) = ap (λ x. reply_only volatile (outcome_reply store id (settling store (prefix x) id))) (same_log fs gs same)
   same_step sent CatchUp = ap (λ x. with_reply (output_effect volatile (only_messages (catch_up config x))) Done) (same_log fs gs same)

@@ -1,7 +1,9 @@
 -- Lists as sets that grow, functions changed at one place, and two majorities.
-use Rattle.std.proofs.Common.{ℕ, zero, suc, List, [], Some, Bool, true, false, inl, inr, refl, sym, subst, ⊎_elim, arith, slice_get, true≢false, ◌≡◌, ◌≢◌, ◌⊎◌, ◌+◌, ◌/◌, ◌<◌, ◌∷◌, ◌++◌, ◌==◌, ◌&&◌, ◌∙◌, if◌then◌else◌}
+use Rattle.std.proofs.Common.{ℕ, zero, suc, List, [], Some, Bool, true, false, inl, inr, refl, sym}
+use Rattle.std.proofs.Common.{subst, ⊎_elim, arith, slice_get, true≢false, ◌≡◌, ◌≢◌, ◌⊎◌, ◌+◌, ◌/◌}
+use Rattle.std.proofs.Common.{◌<◌, ◌∷◌, ◌++◌, ◌==◌, ◌&&◌, ◌∙◌, if◌then◌else◌}
 use Rattle.std.proofs.lemmas.Bool.Decides.{Decides-eqb, Decides-ltb}
-use Rattle.ts_synod.specs.Lists.{Has, put}
+use Rattle.ts_synod.specs.Lists.{Has, update_at}
 use Rattle.ts_synod.specs.Majority.{IsMajority, count, is_majority}
 
 pub has_left : {A : Type 0} (xs ys : List A) (x : A) → Has xs x → Has (xs ++ ys) x
@@ -28,13 +30,13 @@ pub by_test : {A : Type 0} (P : A → Type 0) (b : Bool) (x y : A) → (b ≡ tr
 by_test P true x y f g = f refl
 by_test P false x y f g = g refl
 
-pub put_all : {A : Type 0} (P : ℕ → A → Type 0) (f : ℕ → A) (i : ℕ) (v : A) → P i v → ((j : ℕ) → j ≢ i → P j (f j)) → (j : ℕ) → P j (put f i v j)
+pub put_all : {A : Type 0} (P : ℕ → A → Type 0) (f : ℕ → A) (i : ℕ) (v : A) → P i v → ((j : ℕ) → j ≢ i → P j (f j)) → (j : ℕ) → P j (update_at f i v j)
 put_all {A} P f i v here there j =
     by_test (P j) (j == i) v (f j)
     (λ e. subst (λ k. P k v) (sym ((Decides-eqb j i).0 e)) here)
     (λ e. there j (λ same. true≢false (sym ((Decides-eqb j i).1 same) ∙ e)))
 
-pub put_same : {A : Type 0} (f : ℕ → A) (i : ℕ) (v : A) (j : ℕ) → j ≡ i → put f i v j ≡ v
+pub put_same : {A : Type 0} (f : ℕ → A) (i : ℕ) (v : A) (j : ℕ) → j ≡ i → update_at f i v j ≡ v
 put_same f i v j e = by_test (λ x. x ≡ v) (j == i) v (f j) (λ _. refl) (λ d. absurd (true≢false (sym ((Decides-eqb j i).1 e) ∙ d)))
 
 -- two sets of nodes with more members than there are nodes share one
@@ -45,7 +47,11 @@ meet q r (suc n) h = go (λ l. meet q r n l) (q (suc n)) (r (suc n)) refl refl h
     more : (k : ℕ) × (k < n) × (q (suc k) ≡ true) × (r (suc k) ≡ true) → (k : ℕ) × (k < suc n) × (q (suc k) ≡ true) × (r (suc k) ≡ true)
     more m = (m.0, omega (arith, m.1), m.2, m.3)
 
-    go : (n < count q n + count r n → (k : ℕ) × (k < n) × (q (suc k) ≡ true) × (r (suc k) ≡ true)) → (x y : Bool) → q (suc n) ≡ x → r (suc n) ≡ y → suc n < (if x then suc (count q n) else count q n) + (if y then suc (count r n) else count r n) → (k : ℕ) × (k < suc n) × (q (suc k) ≡ true) × (r (suc k) ≡ true)
+    go : (n < count q n + count r n → (k : ℕ) × (k < n) × (q (suc k) ≡ true) × (r (suc k) ≡ true))
+        → (x y : Bool) → q (suc n) ≡ x → r (suc n) ≡ y
+        → suc n < (if x then suc (count q n) else count q n) +
+        (if y then suc (count r n) else count r n) → (k : ℕ) × (k < suc n) × (q (suc k) ≡ true)
+        × (r (suc k) ≡ true)
     go lower true true e f l = (n, omega arith, e, f)
     go lower true false e f l = more (lower (omega arith))
     go lower false true e f l = more (lower (omega arith))

@@ -5,7 +5,7 @@ use Rattle.std.proofs.lemmas.List.{append-nil}
 use Rattle.ts_synod.specs.declared.message.Fact.{Fact}
 use Rattle.ts_synod.specs.declared.message.Message.{Message}
 use Rattle.ts_synod.specs.Config.{is_node}
-use Rattle.ts_synod.specs.Lists.{put}
+use Rattle.ts_synod.specs.Lists.{update_at}
 use Rattle.ts_synod.specs.Store.{Store}
 use Rattle.ts_synod.specs.Node.{Input, Node, Step, initial, step}
 use Rattle.ts_synod.specs.Turn.{IsAfterCrash, IsAfterTurn, Turn, events_of_turn, node_after, step_then, turn}
@@ -17,11 +17,11 @@ twice : {A : Type 0} (b : Bool) (u v x : A) → (if b then v else (if b then u e
 twice true u v x = refl
 twice false u v x = refl
 
-put_again : {A : Type 0} (f : ℕ → A) (i : ℕ) (u v : A) (j : ℕ) → put (put f i u) i v j ≡ put f i v j
+put_again : {A : Type 0} (f : ℕ → A) (i : ℕ) (u v : A) (j : ℕ) → update_at (update_at f i u) i v j ≡ update_at f i v j
 put_again f i u v j = twice (j == i) u v (f j)
 
 -- what is there already may be put
-put_itself : {A : Type 0} (f : ℕ → A) (i : ℕ) (v : A) → f i ≡ v → (j : ℕ) → f j ≡ put f i v j
+put_itself : {A : Type 0} (f : ℕ → A) (i : ℕ) (v : A) → f i ≡ v → (j : ℕ) → f j ≡ update_at f i v j
 put_itself f i v is j = by_test (λ x. f j ≡ x) (j == i) v (f j) (λ e. ap f ((Decides-eqb j i).0 e) ∙ is) (λ e. refl)
 
 either_way : {A : Type 0} (b : Bool) (u v x y : A) → u ≡ v → (b ≡ false → x ≡ y) → (if b then u else x) ≡ (if b then v else y)
@@ -52,7 +52,7 @@ module _ {C O T Q V : Type 0} (store : Store C O T Q V) (n i : ℕ) (member : is
       let rest : IsAfterTurn mid new i t = subst (λ (node : Node C). IsAfterTurn mid new i (turn store (config_of n i) node mid.sent inputs)) here (turn_is_events inputs mid) in
       let all : IsAfterTurn w new i (step_then s t) = record {
         nodes = λ j. rest.nodes j ∙ put_again w.nodes i (node_after (w.nodes i) s) _ j
-            ∙ ap (λ (fs : List (Fact C)). put w.nodes i (record { facts = fs; volatile = t.effect.volatile }) j)
+            ∙ ap (λ (fs : List (Fact C)). update_at w.nodes i (record { facts = fs; volatile = t.effect.volatile }) j)
             (ap (λ (node : Node C). node.facts ++ t.effect.facts) here ∙ append_assoc (w.nodes i).facts s.effect.facts t.effect.facts);
         sent = rest.sent ∙ append_assoc w.sent s.effect.messages t.effect.messages;
         replies = rest.replies ∙ append_assoc w.replies (s.reply ∷ []) t.replies;
@@ -64,7 +64,9 @@ module _ {C O T Q V : Type 0} (store : Store C O T Q V) (n i : ℕ) (member : is
   one_more [] e w = refl
   one_more (f ∷ es) e w = one_more es e (after_event n store w f)
 
-  pub crash_is_events : (inputs : List (Input C Q)) (w : World C O Q V) → IsAfterCrash w (after_events n store (events_of_turn i inputs ++ Restart i ∷ []) w) i (turn store (config_of n i) (w.nodes i) w.sent inputs)
+  pub crash_is_events : (inputs : List (Input C Q)) (w : World C O Q V)
+      → IsAfterCrash w (after_events n store (events_of_turn i inputs ++ Restart i ∷ []) w) i
+      (turn store (config_of n i) (w.nodes i) w.sent inputs)
   crash_is_events inputs w =
       let t = turn store (config_of n i) (w.nodes i) w.sent inputs in
       let new = after_events n store (events_of_turn i inputs) w in

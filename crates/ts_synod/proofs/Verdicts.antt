@@ -1,5 +1,8 @@
 -- Every reply of a after_events is right.
-use Rattle.std.proofs.Common.{ℕ, zero, suc, List, [], Option, Some, None, Bool, true, false, nat_le, inl, inr, refl, sym, ap, subst, ⊎_elim, arith, length, take, true≢false, ◌≡◌, ◌≢◌, ◌+◌, ◌≤◌, ◌∷◌, ◌++◌, ◌==◌, ◌&&◌, ◌∙◌, if◌then◌else◌}
+use Rattle.std.proofs.Common.{ℕ, zero, suc, List, [], Option, Some, None, Bool, true, false, nat_le}
+use Rattle.std.proofs.Common.{inl, inr, refl, sym, ap, subst, ⊎_elim, arith, length, take}
+use Rattle.std.proofs.Common.{true≢false, ◌≡◌, ◌≢◌, ◌+◌, ◌≤◌, ◌∷◌, ◌++◌, ◌==◌, ◌&&◌, ◌∙◌}
+use Rattle.std.proofs.Common.{if◌then◌else◌}
 use Rattle.std.proofs.lemmas.Bool.Decides.{nat_tests, Decides-eqb}
 use Rattle.std.proofs.lemmas.List.{length-take-le}
 use Rattle.ts_synod.specs.declared.message.Fact.{Fact}
@@ -9,11 +12,15 @@ use Rattle.ts_synod.specs.Lists.{Has}
 use Rattle.ts_synod.specs.Ballot.{ballot}
 use Rattle.ts_synod.specs.Config.{is_node}
 use Rattle.ts_synod.specs.Force.{learned_command, log_of, used_round}
-use Rattle.ts_synod.specs.Store.{Settling, Store, found, same_id, settling, tables, tables_after}
+use Rattle.ts_synod.specs.Store.{Settling, Store, found_command, same_id, settling, tables, tables_after}
 use Rattle.ts_synod.specs.Proposer.{ProposerStep, greatest_round, propose}
 use Rattle.ts_synod.specs.Log.{last_position, leading, next_position, prefix}
-use Rattle.ts_synod.specs.Node.{Answered, CatchUp, Deliver, Done, Input, Node, NotYet, Outcome, PositionsExhausted, Prefix, Question, Reply, RoundsExhausted, Settled, Started, Status, Submit, Unknown, Volatile, answer_at, initial, on_question, outcome_reply, start_reply, step, submit_at, submit_unless_settled}
-use Rattle.ts_synod.specs.World.{Event, Handle, Restart, Stop, World, after_event, after_events, after_run, config_of, start_world, submitted, with_restart, with_step, with_stop}
+use Rattle.ts_synod.specs.Node.{Answered, CatchUp, Deliver, Done, Input, Node, NotYet, Outcome}
+use Rattle.ts_synod.specs.Node.{PositionsExhausted, Prefix, Question, Reply, RoundsExhausted}
+use Rattle.ts_synod.specs.Node.{Settled, Started, Status, Submit, Unknown, Volatile, answer_at}
+use Rattle.ts_synod.specs.Node.{initial, on_question, outcome_reply, start_reply, step, submit_at}
+use Rattle.ts_synod.specs.Node.{submit_unless_settled}
+use Rattle.ts_synod.specs.World.{Event, Handle, Restart, Stop, World, after_event, after_events, after_run, config_of, start_world, submitted_commands, with_restart, with_step, with_stop}
 use Rattle.ts_synod.specs.Laws.{Agrees, AreChosen, FirstChosen, IsChosen, RightOutcome, RightVerdict, Verdicts}
 use Rattle.ts_synod.proofs.Sets.{has_cases, by_test, and_true, put_all}
 use Rattle.ts_synod.proofs.Forces.{learned_is}
@@ -39,7 +46,9 @@ not_same a b e is = true≢false (sym (subst (λ z. same_id a z ≡ true) is (sa
 
 -- Chosen commands
 
-chosen_leading : {C : Type 0} (n : ℕ) (nodes : ℕ → Node C) (learned : ℕ → Option C) → ((q : ℕ) (c : C) → learned q ≡ Some c → IsChosen n nodes q c) → (k p : ℕ) → AreChosen n nodes p (leading k p learned)
+chosen_leading : {C : Type 0} (n : ℕ) (nodes : ℕ → Node C) (learned : ℕ → Option C)
+    → ((q : ℕ) (c : C) → learned q ≡ Some c → IsChosen n nodes q c) → (k p : ℕ)
+    → AreChosen n nodes p (leading k p learned)
 chosen_leading n nodes learned h zero p = tt
 chosen_leading {C} n nodes learned h (suc k) p = go (chosen_leading n nodes learned h k (suc p)) (learned p) refl
   where
@@ -87,15 +96,31 @@ record Place {C O T Q V : Type 0} (store : Store C O T Q V) (id : List ℕ) (t :
   is_first : (c : C) → Has before c → store.id_of c ≢ id
   outcome : s.outcome ≡ (store.step (tables_after store t before) command).1
 
-place : {C O T Q V : Type 0} (store : Store C O T Q V) (id : List ℕ) (t : T) (p : ℕ) (cs : List C) (s : Settling O) → found store id t p cs ≡ Some s → Place store id t p cs s
+place : {C O T Q V : Type 0} (store : Store C O T Q V) (id : List ℕ) (t : T) (p : ℕ) (cs : List C) (s : Settling O) → found_command store id t p cs ≡ Some s → Place store id t p cs s
 place store id t p [] s e = absurd (cc)
 place {C} {O} store id t p (c ∷ cs) s e = go (λ k. place store id (store.step t c).0 (suc p) cs s k) (same_id (store.id_of c) id) refl e
   where
-    go : (found store id (store.step t c).0 (suc p) cs ≡ Some s → Place store id (store.step t c).0 (suc p) cs s) → (b : Bool) → same_id (store.id_of c) id ≡ b → (if b then Some (record { position = p; outcome = (store.step t c).1 }) else found store id (store.step t c).0 (suc p) cs) ≡ Some s → Place store id t p (c ∷ cs) s
+    go : (found_command store id (store.step t c).0 (suc p) cs ≡ Some s
+        → Place store id (store.step t c).0 (suc p) cs s) → (b : Bool)
+        → same_id (store.id_of c) id ≡ b
+        → (if b then Some (record { position = p; outcome = (store.step t c).1 }) else found_command
+        store id (store.step t c).0 (suc p) cs) ≡ Some s → Place store id t p (c ∷ cs) s
     go again true is k =
         let here : Settling O = record { position = p; outcome = (store.step t c).1 } in
         let e : here ≡ s = cc in
-        subst (Place store id t p (c ∷ cs)) e (record { before = []; command = c; rest = cs; whole = refl; position = omega arith; has_id = same_is (store.id_of c) id is; is_first = λ d h. absurd h; outcome = refl })
+        subst (Place store id t p (c ∷ cs)) e
+        (record {
+          before = [];
+          command = c;
+          rest = cs;
+          whole = refl;
+          position =
+              omega arith;
+          has_id = same_is (store.id_of c) id is;
+          is_first =
+              λ d h. absurd h;
+          outcome = refl;
+        })
     go again false is k =
         let h = again k in
         record {
@@ -133,7 +158,16 @@ module _ {C O T Q V : Type 0} (n : ℕ) (store : Store C O T Q V) where
   right_later : (nodes later : ℕ → Node C) → Grow nodes later → (r : Reply O Q V) → RightReply nodes r → RightReply later r
   right_later nodes later grow Done h = tt
   right_later nodes later grow (Started p b) h = tt
-  right_later nodes later grow (Settled id p o) h = record { before = h.before; command = h.command; chosen = (h.chosen.0, chosen_later n nodes later grow 1 (h.before ++ h.command ∷ []) h.chosen.1); has_id = h.has_id; is_first = h.is_first; outcome = h.outcome }
+  right_later nodes later grow (Settled id p o) h =
+      record {
+        before = h.before;
+        command = h.command;
+        chosen =
+            (h.chosen.0, chosen_later n nodes later grow 1 (h.before ++ h.command ∷ []) h.chosen.1);
+        has_id = h.has_id;
+        is_first = h.is_first;
+        outcome = h.outcome;
+      }
   right_later nodes later grow (Unknown id) h = tt
   right_later nodes later grow (NotYet k q m) h = tt
   right_later nodes later grow (Answered k q v) h = record { commands = h.commands; chosen = (h.chosen.0, chosen_later n nodes later grow 1 h.commands h.chosen.1); verdict = h.verdict }
@@ -167,7 +201,10 @@ module _ {C O T Q V : Type 0} (n : ℕ) (store : Store C O T Q V) where
   outcome_right nodes cs h id None e = tt
   outcome_right nodes cs h id (Some s) e = settled_right nodes cs h id s e
 
-  step_right : (nodes : ℕ → Node C) (sent : List (Message C)) (i : ℕ) → ((p : ℕ) (c : C) → learned_command p (nodes i).facts ≡ Some c → IsChosen n nodes p c) → (input : Input C Q) → RightReply nodes (step store (config_of n i) (nodes i) sent input).reply
+  step_right : (nodes : ℕ → Node C) (sent : List (Message C)) (i : ℕ)
+      → ((p : ℕ) (c : C) → learned_command p (nodes i).facts ≡ Some c → IsChosen n nodes p c)
+      → (input : Input C Q)
+      → RightReply nodes (step store (config_of n i) (nodes i) sent input).reply
   step_right nodes sent i h input = go input
     where
       cs : AreChosen n nodes 1 (prefix (log_of (nodes i).facts))
@@ -183,7 +220,9 @@ module _ {C O T Q V : Type 0} (n : ℕ) (store : Store C O T Q V) where
           let node = nodes i in
           begun node.volatile p (ballot i (suc (greatest_round (used_round node.facts) node.volatile.proposer))) (propose (config_of n i) (used_round node.facts) node.volatile.proposer p c)
 
-      submit : (c : C) (o : Option (Settling O)) → settling store (prefix (log_of (nodes i).facts)) (store.id_of c) ≡ o → RightReply nodes (submit_unless_settled store (config_of n i) (nodes i) c o).reply
+      submit : (c : C) (o : Option (Settling O))
+          → settling store (prefix (log_of (nodes i).facts)) (store.id_of c) ≡ o
+          → RightReply nodes (submit_unless_settled store (config_of n i) (nodes i) c o).reply
       submit c None e = proposed c (next_position (log_of (nodes i).facts))
       submit c (Some s) e = settled_right nodes (prefix (log_of (nodes i).facts)) cs (store.id_of c) s e
 
@@ -209,7 +248,10 @@ module _ {C O T Q V : Type 0} (n : ℕ) (store : Store C O T Q V) where
       (λ _. all)
   happens_right P w (Restart i) h all =
       by_test AllRight (is_node n i) (with_restart w i) w
-      (λ _ r k. right_later w.nodes (with_restart w i).nodes (λ a f. put_all (λ j node. Has (w.nodes j).facts f → Has node.facts f) w.nodes i (record { facts = (w.nodes i).facts; volatile = initial }) (λ x. x) (λ j _ x. x) a) r (all r k))
+      (λ _ r k. right_later w.nodes (with_restart w i).nodes
+      (λ a f. put_all (λ j node. Has (w.nodes j).facts f → Has node.facts f) w.nodes i
+      (record { facts = (w.nodes i).facts; volatile = initial }) (λ x. x) (λ j _ x. x) a) r
+      (all r k))
       (λ _. all)
   happens_right P w (Stop i input) h all =
       let facts = (step store (config_of n i) (w.nodes i) w.sent input).effect.facts in
@@ -217,10 +259,14 @@ module _ {C O T Q V : Type 0} (n : ℕ) (store : Store C O T Q V) where
       (λ _ r k. right_later w.nodes (with_stop w i facts).nodes (grows w.nodes i facts initial) r (all r k))
       (λ _. all)
 
-  run_right : (P : C → Type 0) (es : List (Event C Q)) (w : World C O Q V) → n ≤ 9 → ((c : C) → Has (submitted es) c → P c) → SafeWorld n P w → AllRight w → AllRight (after_events n store es w)
+  run_right : (P : C → Type 0) (es : List (Event C Q)) (w : World C O Q V) → n ≤ 9
+      → ((c : C) → Has (submitted_commands es) c → P c) → SafeWorld n P w → AllRight w
+      → AllRight (after_events n store es w)
   run_right P [] w most holds h all = all
   run_right P (e ∷ es) w most holds h all =
-      run_right P es (after_event n store w e) most (λ c k. holds c (rest_submitted e es c k)) (happens_safe n store P w e most (λ c k. holds c (first_submitted e es c k)) h) (happens_right P w e h all)
+      run_right P es (after_event n store w e) most (λ c k. holds c (rest_submitted e es c k))
+      (happens_safe n store P w e most (λ c k. holds c (first_submitted e es c k)) h)
+      (happens_right P w e h all)
 
 -- the theorem
 pub equal_verdicts : {C O T Q V : Type 0} (n : ℕ) (store : Store C O T Q V) (es : List (Event C Q)) → n ≤ 9 → Verdicts n store (after_run n store es)
@@ -236,7 +282,7 @@ equal_verdicts {C} {O} {T} {Q} {V} n store es most =
     }
   where
     all : AllRight n store (after_run n store es)
-    all = run_right n store (λ c. Has (submitted es) c) es start_world most (λ c k. k) (start_safe n (λ c. Has (submitted es) c)) (λ r h. absurd h)
+    all = run_right n store (λ c. Has (submitted_commands es) c) es start_world most (λ c k. k) (start_safe n (λ c. Has (submitted_commands es) c)) (λ r h. absurd h)
 
     one : (k : ℕ) (cs ds : List C) → FirstChosen n (after_run n store es).nodes k cs → FirstChosen n (after_run n store es).nodes k ds → cs ≡ ds
     one k cs ds h l = same_chosen n (after_run n store es).nodes (agreement n store es most) 1 cs ds (h.0 ∙ sym l.0) h.1 l.1

@@ -71,17 +71,17 @@ settling_events =
     ∷ (2, 57) ∷ (3, 58) ∷ [])
 
 -- the positions and ballots of the rounds that were started
-abbrev pub started : {O Q V : Type 0} → List (Reply O Q V) → List (ℕ × ℕ)
-started [] = []
-started (Done ∷ rs) = started rs
-started (Started p b ∷ rs) = (p, b) ∷ started rs
-started (Settled id p o ∷ rs) = started rs
-started (Unknown id ∷ rs) = started rs
-started (NotYet k q m ∷ rs) = started rs
-started (Answered k q v ∷ rs) = started rs
-started (Prefix m ∷ rs) = started rs
-started (RoundsExhausted ∷ rs) = started rs
-started (PositionsExhausted ∷ rs) = started rs
+abbrev pub rounds_started : {O Q V : Type 0} → List (Reply O Q V) → List (ℕ × ℕ)
+rounds_started [] = []
+rounds_started (Done ∷ rs) = rounds_started rs
+rounds_started (Started p b ∷ rs) = (p, b) ∷ rounds_started rs
+rounds_started (Settled id p o ∷ rs) = rounds_started rs
+rounds_started (Unknown id ∷ rs) = rounds_started rs
+rounds_started (NotYet k q m ∷ rs) = rounds_started rs
+rounds_started (Answered k q v ∷ rs) = rounds_started rs
+rounds_started (Prefix m ∷ rs) = rounds_started rs
+rounds_started (RoundsExhausted ∷ rs) = rounds_started rs
+rounds_started (PositionsExhausted ∷ rs) = rounds_started rs
 
 -- what a node has learned without a gap
 abbrev pub learned_by : ExampleWorld → ℕ → List Entry
@@ -90,7 +90,7 @@ learned_by w i = prefix (log_of (w.nodes i).facts)
 -- The rounds are 17, 18 and 33, and at the end all nodes have learned the second command and then
 -- the first, out of 58 messages.
 pub record ClassicRun : Type 0 where
-  pub rounds : started (after_run 3 appending classic_events).replies
+  pub rounds : rounds_started (after_run 3 appending classic_events).replies
       ≡ (1, 17) ∷ (1, 18) ∷ (1, 33) ∷ []
   pub chosen_once : learned_by (after_run 3 appending classic_events) 1 ≡ second ∷ []
   pub messages : length (after_run 3 appending (classic_events ++ settling_events)).sent ≡ 58

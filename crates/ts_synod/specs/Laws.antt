@@ -9,7 +9,7 @@ use Rattle.ts_synod.specs.Config.{Config}
 use Rattle.ts_synod.specs.Force.{SameForce}
 use Rattle.ts_synod.specs.Store.{Store, tables}
 use Rattle.ts_synod.specs.Node.{Answered, Input, Node, Settled, Volatile, step}
-use Rattle.ts_synod.specs.World.{Event, World, after_run, submitted}
+use Rattle.ts_synod.specs.World.{Event, World, after_run, submitted_commands}
 
 -- c is chosen at p: a majority of the nodes at some time took it there in one ballot (Paxos Made
 -- Simple 2.2)
@@ -80,7 +80,7 @@ Agreement {C} {O} {T} {Q} {V} store =
 -- some node
 abbrev pub OnlySubmitted : {C O T Q V : Type 0} → Store C O T Q V → Type 0
 OnlySubmitted {C} {O} {T} {Q} {V} store = (n : ℕ) (events : List (Event C Q)) (p : ℕ) (c : C)
-    → n ≤ 9 → IsChosen n (after_run n store events).nodes p c → Has (submitted events) c
+    → n ≤ 9 → IsChosen n (after_run n store events).nodes p c → Has (submitted_commands events) c
 
 -- after every list of events all replies given are those of one state machine (3)
 abbrev pub EqualVerdicts : {C O T Q V : Type 0} → Store C O T Q V → Type 0

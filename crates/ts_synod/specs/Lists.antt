@@ -7,5 +7,5 @@ Has [] x = ⊥
 Has (y ∷ ys) x = (y ≡ x) ⊎ Has ys x
 
 -- the function f, but v at i
-abbrev pub put : {A : Type 0} → (ℕ → A) → ℕ → A → ℕ → A
-put f i v j = if j == i then v else f j
+abbrev pub update_at : {A : Type 0} → (ℕ → A) → ℕ → A → ℕ → A
+update_at f i v j = if j == i then v else f j

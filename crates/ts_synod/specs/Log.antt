@@ -8,7 +8,7 @@ use Rattle.ts_synod.specs.declared.message.Fact.TheVariants.{Chosen}
 use Rattle.ts_synod.specs.declared.message.Fact.{Fact}
 use Rattle.ts_synod.specs.declared.message.Message.{Message}
 use Rattle.ts_synod.specs.declared.message.Vote.{Vote}
-use Rattle.ts_synod.specs.Lists.{put}
+use Rattle.ts_synod.specs.Lists.{update_at}
 use Rattle.ts_synod.specs.Majority.{is_majority}
 use Rattle.ts_synod.specs.Config.{Config}
 use Rattle.ts_synod.specs.Messages.{broadcast_to_others, send}
@@ -37,28 +37,29 @@ abbrev pub has_grown : {C : Type 0} → (ℕ → Option C) → (ℕ → Option C
 has_grown before now = nat_lt (length (prefix before)) (length (prefix now))
 
 -- by position and sender, the vote of the greatest ballot in an Accepted
-abbrev pub Received : Type 0 → Type 0
-Received C = ℕ → ℕ → Option (Vote C)
+abbrev pub ReceivedVotes : Type 0 → Type 0
+ReceivedVotes C = ℕ → ℕ → Option (Vote C)
 
 -- facts to keep, messages to send once they are kept, and what is learned and received then
 pub record LogStep (C : Type 0) : Type 0 where
   pub facts : List (Fact C)
   pub messages : List (Message C)
   pub learned : ℕ → Option C
-  pub received : Received C
+  pub received : ReceivedVotes C
 
 -- no position is learned, and the received votes are these
-abbrev pub keep_received : {C : Type 0} → (ℕ → Option C) → Received C → LogStep C
+abbrev pub keep_received : {C : Type 0} → (ℕ → Option C) → ReceivedVotes C → LogStep C
 keep_received learned received = record
     { facts = []; messages = []; learned = learned; received = received }
 
 -- c is learned at p and kept as chosen, and the votes received there are forgotten (2.3)
-abbrev pub learn : {C : Type 0} → (ℕ → Option C) → Received C → ℕ → C → List (Message C) → LogStep C
+abbrev pub learn : {C : Type 0} → (ℕ → Option C) → ReceivedVotes C → ℕ → C → List (Message C)
+    → LogStep C
 learn learned received p c messages = record {
   facts = Chosen p c ∷ [];
   messages = messages;
-  learned = put learned p (Some c);
-  received = put received p (λ a. None);
+  learned = update_at learned p (Some c);
+  received = update_at received p (λ a. None);
 }
 
 -- the vote is of ballot b
@@ -67,19 +68,19 @@ is_vote_in b None = false
 is_vote_in b (Some v) = v.ballot == b
 
 -- where the votes of a majority are of ballot b, its command is chosen, and learned (2.3)
-abbrev pub count_votes : {C : Type 0} → Config → (ℕ → Option C) → Received C → ℕ → ℕ → C
+abbrev pub count_votes : {C : Type 0} → Config → (ℕ → Option C) → ReceivedVotes C → ℕ → ℕ → C
     → (ℕ → Option (Vote C)) → LogStep C
 count_votes config learned received p b c votes =
     if is_majority config.nodes (λ a. is_vote_in b (votes a))
     then learn learned received p c []
-    else keep_received learned (put received p votes)
+    else keep_received learned (update_at received p votes)
 
 -- the votes received at a position, with one more: of each sender the one of the greatest ballot
 abbrev pub with_vote : {C : Type 0} → (ℕ → Option (Vote C)) → ℕ → Vote C → ℕ → Option (Vote C)
-with_vote votes from vote = put votes from (greater_vote (votes from) (Some vote))
+with_vote votes from vote = update_at votes from (greater_vote (votes from) (Some vote))
 
 -- Accepted of ballot b and command c at p: it counts where p is not learned yet (2.3)
-abbrev pub on_accepted : {C : Type 0} → Config → (ℕ → Option C) → Received C → ℕ → ℕ → ℕ → C
+abbrev pub on_accepted : {C : Type 0} → Config → (ℕ → Option C) → ReceivedVotes C → ℕ → ℕ → ℕ → C
     → LogStep C
 on_accepted config learned received from p b c =
     if is_some (learned p)
@@ -99,16 +100,17 @@ ask_back config before now node =
 
 -- Give of command c at p, which its sender has learned: it is learned here too (2.3: a learner can
 -- ask another)
-abbrev pub on_give : {C : Type 0} → Config → (ℕ → Option C) → Received C → ℕ → ℕ → C → LogStep C
+abbrev pub on_give : {C : Type 0} → Config → (ℕ → Option C) → ReceivedVotes C → ℕ → ℕ → C
+    → LogStep C
 on_give config learned received from p c =
     if is_some (learned p)
     then keep_received learned received
-    else learn learned received p c (ask_back config learned (put learned p (Some c)) from)
+    else learn learned received p c (ask_back config learned (update_at learned p (Some c)) from)
 
 -- how many positions an Ask for p asks for, from p on: where p is a multiple of 32 a block of 32,
 -- up to the last position, and elsewhere p alone
-abbrev pub block : ℕ → ℕ
-block p = if p % 32 == 0 then min 32 (suc last_position - p) else 1
+abbrev pub ask_length : ℕ → ℕ
+ask_length p = if p % 32 == 0 then min 32 (suc last_position - p) else 1
 
 -- a Give of each of the commands, which are learned at p, p + 1 and so on
 abbrev pub gives : {C : Type 0} → Config → ℕ → ℕ → List C → List (Message C)
@@ -117,7 +119,7 @@ gives config from p (c ∷ cs) = send config.me from (Give p c) ∷ gives config
 
 -- Ask for position p: the commands of its block are given, up to the first that is not learned
 abbrev pub on_ask : {C : Type 0} → Config → (ℕ → Option C) → ℕ → ℕ → List (Message C)
-on_ask config learned from p = gives config from p (leading (block p) p learned)
+on_ask config learned from p = gives config from p (leading (ask_length p) p learned)
 
 -- Ask all other nodes for a position, where there is one
 abbrev pub ask_others : {C : Type 0} → Config → Option ℕ → List (Message C)

@@ -14,14 +14,16 @@ use Rattle.ts_synod.specs.Store.{Settling, Store, settling, tables}
 use Rattle.ts_synod.specs.Acceptor.{Output, on_accept, on_prepare, only_messages}
 use Rattle.ts_synod.specs.Proposer.{ProposerState, ProposerStep, greatest_round, idle, on_busy}
 use Rattle.ts_synod.specs.Proposer.{on_growth, on_promise, propose}
-use Rattle.ts_synod.specs.Log.{LogStep, Received, catch_up, has_grown, next_position, on_accepted}
+use Rattle.ts_synod.specs.Log.{LogStep, ReceivedVotes, catch_up, has_grown, next_position}
+use Rattle.ts_synod.specs.Log.{on_accepted}
 use Rattle.ts_synod.specs.Log.{on_ask, on_give, prefix}
 
 -- what reaches a node: the message of this number among all sent, or a request of a client
 pub data Input (C Q : Type 0) : Type 0 where
   Deliver : (which : ℕ) → Input C Q
   Submit : (command : C) → Input C Q
-  Question : (at' : Option ℕ) → (question : Q) → Input C Q  -- over the first k commands, or over the whole prefix
+  Question : (at' : Option ℕ) → (question : Q)
+      → Input C Q  -- over the first k commands, or over the whole prefix
   Outcome : (id : List ℕ) → Input C Q
   CatchUp : Input C Q
   Status : Input C Q
@@ -42,7 +44,7 @@ pub data Reply (O Q V : Type 0) : Type 0 where
 -- storage survives a failure)
 pub record Volatile (C : Type 0) : Type 0 where
   pub proposer : ProposerState C
-  pub received : Received C
+  pub received : ReceivedVotes C
 
 -- the volatile part after a restart
 abbrev pub initial : {C : Type 0} → Volatile C

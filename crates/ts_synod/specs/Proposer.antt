@@ -8,7 +8,7 @@ use Rattle.ts_synod.specs.declared.message.Fact.{Fact}
 use Rattle.ts_synod.specs.declared.message.Message.{Message}
 use Rattle.ts_synod.specs.declared.message.Fact.TheVariants.{Used}
 use Rattle.ts_synod.specs.declared.message.Vote.{Vote}
-use Rattle.ts_synod.specs.Lists.{put}
+use Rattle.ts_synod.specs.Lists.{update_at}
 use Rattle.ts_synod.specs.Majority.{is_majority}
 use Rattle.ts_synod.specs.Ballot.{ballot, last_round, round_of}
 use Rattle.ts_synod.specs.Config.{Config}
@@ -76,15 +76,15 @@ propose config used state p c = if rounds_are_exhausted used state then None
     else Some (begin_round config used state p c)
 
 -- the vote that a node's promise reports
-abbrev pub reported : {C : Type 0} → Option (Option (Vote C)) → Option (Vote C)
-reported None = None
-reported (Some taken) = taken
+abbrev pub reported_vote : {C : Type 0} → Option (Option (Vote C)) → Option (Vote C)
+reported_vote None = None
+reported_vote (Some taken) = taken
 
 -- of the votes reported by nodes 1 to n, the one of the greatest ballot (2.2)
 abbrev pub greatest_reported : {C : Type 0} → (ℕ → Option (Option (Vote C))) → ℕ → Option (Vote C)
 greatest_reported promises zero = None
 greatest_reported promises (suc n) =
-    greater_vote (greatest_reported promises n) (reported (promises (suc n)))
+    greater_vote (greatest_reported promises n) (reported_vote (promises (suc n)))
 
 -- 'the value of the highest-numbered proposal among the responses', or the wanted command if no
 -- proposal is reported (2.2)
@@ -130,7 +130,7 @@ promise_in_phase config state from taken round Accepting = only_state state
 promise_in_phase config state from taken round (Preparing promises) =
     if is_some (promises from)
     then only_state state
-    else count_promises config state round (put promises from (Some taken))
+    else count_promises config state round (update_at promises from (Some taken))
 
 -- the ballot and the position are those of the round
 abbrev pub is_current : {C : Type 0} → Config → Round C → ℕ → ℕ → Bool

@@ -34,13 +34,13 @@ pub record Settling (O : Type 0) : Type 0 where
 
 -- where the first of the commands with this id is, and its outcome; t is the state before them, and
 -- p the position of the first
-abbrev pub found : {C O T Q V : Type 0} → Store C O T Q V → List ℕ → T → ℕ → List C
+abbrev pub found_command : {C O T Q V : Type 0} → Store C O T Q V → List ℕ → T → ℕ → List C
     → Option (Settling O)
-found store id t p [] = None
-found store id t p (c ∷ cs) = if same_id (store.id_of c) id
+found_command store id t p [] = None
+found_command store id t p (c ∷ cs) = if same_id (store.id_of c) id
     then Some (record { position = p; outcome = (store.step t c).1 })
-    else found store id (store.step t c).0 (suc p) cs
+    else found_command store id (store.step t c).0 (suc p) cs
 
 -- where an id first is among the commands of positions 1, 2 and so on
 abbrev pub settling : {C O T Q V : Type 0} → Store C O T Q V → List C → List ℕ → Option (Settling O)
-settling store cs id = found store id store.empty 1 cs
+settling store cs id = found_command store id store.empty 1 cs

@@ -4,7 +4,7 @@
 use Rattle.std.proofs.Common.{◌≡◌, ℕ, true, List, [], ◌∷◌, ◌++◌, map}
 use Rattle.ts_synod.specs.declared.message.Message.{Message}
 use Rattle.ts_synod.specs.Config.{Config, is_node}
-use Rattle.ts_synod.specs.Lists.{put}
+use Rattle.ts_synod.specs.Lists.{update_at}
 use Rattle.ts_synod.specs.Store.{Store}
 use Rattle.ts_synod.specs.Node.{Effect, Input, Node, Reply, Step, initial, step}
 use Rattle.ts_synod.specs.World.{Event, Handle, Restart, World, after_events, config_of}
@@ -49,7 +49,7 @@ events_of_turn i inputs = map (Handle i) inputs
 pub record IsAfterTurn {C O Q V : Type 0} (old new : World C O Q V) (i : ℕ)
     (t : Turn C O Q V) : Type 0 where
   pub nodes : (j : ℕ) → new.nodes j
-      ≡ put old.nodes i (record {
+      ≡ update_at old.nodes i (record {
         facts = (old.nodes i).facts ++ t.effect.facts;
         volatile = t.effect.volatile;
       }) j
@@ -60,7 +60,7 @@ pub record IsAfterTurn {C O Q V : Type 0} (old new : World C O Q V) (i : ℕ)
 pub record IsAfterCrash {C O Q V : Type 0} (old new : World C O Q V) (i : ℕ)
     (t : Turn C O Q V) : Type 0 where
   pub nodes : (j : ℕ) → new.nodes j
-      ≡ put old.nodes i (record {
+      ≡ update_at old.nodes i (record {
         facts = (old.nodes i).facts ++ t.effect.facts;
         volatile = initial;
       }) j

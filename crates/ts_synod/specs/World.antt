@@ -5,7 +5,7 @@
 use Rattle.std.proofs.Common.{ℕ, List, [], ◌∷◌, ◌++◌, if◌then◌else◌}
 use Rattle.ts_synod.specs.declared.message.Fact.{Fact}
 use Rattle.ts_synod.specs.declared.message.Message.{Message}
-use Rattle.ts_synod.specs.Lists.{put}
+use Rattle.ts_synod.specs.Lists.{update_at}
 use Rattle.ts_synod.specs.Config.{Config, is_node}
 use Rattle.ts_synod.specs.Store.{Store}
 use Rattle.ts_synod.specs.Node.{CatchUp, Deliver, Input, Node, Outcome, Question, Reply, Status}
@@ -21,7 +21,8 @@ pub record World (C O Q V : Type 0) : Type 0 where
 pub data Event (C Q : Type 0) : Type 0 where
   Handle : (node : ℕ) → Input C Q → Event C Q  -- it takes an input
   Restart : (node : ℕ) → Event C Q  -- it forgets its volatile part
-  Stop : (node : ℕ) → Input C Q → Event C Q  -- it takes an input and keeps its facts, but its output is lost, and it restarts
+  Stop : (node : ℕ) → Input C Q
+      → Event C Q  -- it takes an input and keeps its facts, but its output is lost, and it restarts
 
 -- no node has kept anything, and nothing was sent
 abbrev pub start_world : {C O Q V : Type 0} → World C O Q V
@@ -35,7 +36,7 @@ start_world = record {
 abbrev pub with_step : {C O Q V : Type 0} → World C O Q V → ℕ → Step C O Q V → World C O Q V
 with_step w i s =
     record {
-      nodes = put w.nodes i (record {
+      nodes = update_at w.nodes i (record {
         facts = (w.nodes i).facts ++ s.effect.facts;
         volatile = s.effect.volatile;
       });
@@ -47,7 +48,8 @@ with_step w i s =
 abbrev pub with_stop : {C O Q V : Type 0} → World C O Q V → ℕ → List (Fact C) → World C O Q V
 with_stop w i facts =
     record {
-      nodes = put w.nodes i (record { facts = (w.nodes i).facts ++ facts; volatile = initial });
+      nodes = update_at w.nodes i (record
+          { facts = (w.nodes i).facts ++ facts; volatile = initial });
       sent = w.sent;
       replies = w.replies;
     }
@@ -56,7 +58,7 @@ with_stop w i facts =
 abbrev pub with_restart : {C O Q V : Type 0} → World C O Q V → ℕ → World C O Q V
 with_restart w i =
     record {
-      nodes = put w.nodes i (record { facts = (w.nodes i).facts; volatile = initial });
+      nodes = update_at w.nodes i (record { facts = (w.nodes i).facts; volatile = initial });
       sent = w.sent;
       replies = w.replies;
     }
@@ -94,8 +96,8 @@ submitted_by CatchUp = []
 submitted_by Status = []
 
 -- the commands submitted in a run, at any node
-abbrev pub submitted : {C Q : Type 0} → List (Event C Q) → List C
-submitted [] = []
-submitted (Handle i input ∷ es) = submitted_by input ++ submitted es
-submitted (Restart i ∷ es) = submitted es
-submitted (Stop i input ∷ es) = submitted_by input ++ submitted es
+abbrev pub submitted_commands : {C Q : Type 0} → List (Event C Q) → List C
+submitted_commands [] = []
+submitted_commands (Handle i input ∷ es) = submitted_by input ++ submitted_commands es
+submitted_commands (Restart i ∷ es) = submitted_commands es
+submitted_commands (Stop i input ∷ es) = submitted_by input ++ submitted_commands es

@@ -18,6 +18,7 @@
 //! - `Command`: what a command must offer: a copy that equals it, or an `AllocError`.
 //! - `Codec`: a command that has one encoding, both ways.
 //! - `Fact::try_copy`, `Body::try_copy`: a copy that equals it.
+//! - `NodeFault`: why a node answers nothing, in a call and in a frame.
 //! - `broadcast`, `broadcast_to_others`: one body to all nodes, or to all but this one.
 //! - `put_at`, `replace_at`: a value at a key that a map has already, which takes no memory.
 //! - `agreement`: no two nodes hold different commands at one position, and what is held is chosen.
@@ -32,6 +33,7 @@
 mod ballots;
 mod codec;
 mod command;
+mod fault;
 mod laws;
 mod message;
 mod places;
@@ -40,6 +42,7 @@ mod sending;
 pub use ballots::{Ballot, ballot_of};
 pub use codec::Codec;
 pub use command::Command;
+pub use fault::NodeFault;
 pub use laws::{
     a_turn_is_events, agreement, classic_run, equal_verdicts, force_stays, only_submitted,
     step_by_force,

@@ -6,7 +6,7 @@ use crate::locking::RecordLock;
 use std::alloc::Global;
 use std::fs::File;
 use std::rt::Files;
-use ts_client::{Fault, fault_of, second};
+use ts_client::{TaskFault, fault_of, second};
 use ts_disk::Disk;
 use ts_file::{FileDisk, create, open};
 use ts_record::Record;
@@ -21,7 +21,7 @@ pub fn open_disks<R: Files + Eprint>(
     rt: &R,
     alloc: Global,
     path: &str,
-) -> Result<(FileDisk<R::File>, FileDisk<R::File>), Fault> {
+) -> Result<(FileDisk<R::File>, FileDisk<R::File>), TaskFault> {
     let other = second(alloc, path)?;
     let a = match open(rt, alloc, path) {
         Ok(disk) => disk,
@@ -38,7 +38,7 @@ fn create_empty<R: Files + Eprint>(
     rt: &R,
     alloc: Global,
     path: &str,
-) -> Result<FileDisk<R::File>, Fault> {
+) -> Result<FileDisk<R::File>, TaskFault> {
     let mut disk = match create(rt, alloc, path) {
         Ok(disk) => disk,
         Err(error) => return Err(fault_of(rt, path, &error)),
@@ -47,9 +47,9 @@ fn create_empty<R: Files + Eprint>(
         Ok(octets) if octets.is_empty() => Ok(disk),
         Ok(_) => {
             let _ = eprintln!(rt; "trustd: {path}: holds octets, and is not written over");
-            Err(Fault::File)
+            Err(TaskFault::File)
         }
-        Err(fault) => Err(Fault::from(ts_record::Fault::from(fault))),
+        Err(fault) => Err(TaskFault::from(ts_record::RecordFault::from(fault))),
     }
 }
 
@@ -67,7 +67,7 @@ pub fn format_files<R: Files<File = File> + Eprint>(
     node: u8,
     nodes: u8,
     group: u32,
-) -> Result<(), Fault>
+) -> Result<(), TaskFault>
     requires from { 1 ≤ node }
     requires to { node ≤ nodes }
     requires few { nodes ≤ 9 }
@@ -92,7 +92,7 @@ pub fn migrate_files<R: Files<File = File> + Eprint>(
     alloc: Global,
     old: &str,
     new: &str,
-) -> Result<u32, Fault> {
+) -> Result<u32, TaskFault> {
     let mut old = match open(rt, alloc, old) {
         Ok(disk) => disk,
         Err(error) => return Err(fault_of(rt, old, &error)),

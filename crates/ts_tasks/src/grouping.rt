@@ -7,7 +7,7 @@ use std::rt::Files;
 use ts_access::{Key, Role};
 use ts_check::ALGORITHMS;
 use ts_cli::{ServeWords, VERSION, peer_of};
-use ts_client::{Fault, fault_of, key_in, keyring_of};
+use ts_client::{TaskFault, fault_of, key_in, keyring_of};
 use ts_loop::{Access, Group, PeerAddress};
 use ts_meter::Meter;
 
@@ -22,7 +22,7 @@ struct Member {
 }
 
 /// The node that a record's header names. Whether it is a header, opening the record says.
-fn member_of<R: Files + Eprint>(rt: &R, path: &str) -> Result<Member, Fault> {
+fn member_of<R: Files + Eprint>(rt: &R, path: &str) -> Result<Member, TaskFault> {
     let mut file = match fs::open(rt, path) {
         Ok(file) => file,
         Err(error) => return Err(fault_of(rt, path, &error)),
@@ -33,11 +33,12 @@ fn member_of<R: Files + Eprint>(rt: &R, path: &str) -> Result<Member, Fault> {
             node: head[NODE],
             nodes: head[NODE + 1],
         }),
-        Err(_) => Err(Fault::Record(ts_record::Fault::NotFormatted)),
+        Err(_) => Err(TaskFault::Record(ts_record::RecordFault::NotFormatted)),
     }
 }
 
-/// Whether a peer of this number may be added: it is another node of the group, and is not there yet.
+/// Whether a peer of this number may be added: it is another node of the group, and is not there
+/// yet.
 fn may_be_added(peers: &[PeerAddress], member: Member, node: u8) -> bool {
     node != member.node && node <= member.nodes && peers.iter().all(|peer| peer.node != node)
 }
@@ -52,19 +53,19 @@ pub(crate) fn group_of<R: Files + Eprint>(
     rt: &R,
     alloc: Global,
     words: &ServeWords,
-) -> Result<Group, Fault> {
+) -> Result<Group, TaskFault> {
     let member = member_of(rt, words.file.as_str())?;
     let mut peers = Vec::new(alloc);
     for text in &words.peers {
         let Some((node, address)) = peer_of(text.as_str()) else {
-            return Err(Fault::Field);
+            return Err(TaskFault::Field);
         };
         if !may_be_added(&peers, member, node) {
             let (own, nodes) = (member.node, member.nodes);
             let _ = eprintln!(rt;
                 "trustd: --peer {node}: this is node {own} of {nodes}, and a peer is another, named once"
             );
-            return Err(Fault::Field);
+            return Err(TaskFault::Field);
         }
         let address = String::from_str(alloc, address)?;
         peers.push(PeerAddress { node, address })?;
@@ -82,19 +83,19 @@ fn own_key<R: Files + Eprint>(
     alloc: Global,
     words: &ServeWords,
     node: u8,
-) -> Result<Option<Key>, Fault> {
+) -> Result<Option<Key>, TaskFault> {
     let Some(key) = key_in(rt, alloc, &words.key)? else {
         return Ok(None);
     };
     if key.role != Role::Peer(node) {
         let _ = eprintln!(rt; "trustd: the key of --key is not one of peer {node}");
-        return Err(Fault::Field);
+        return Err(TaskFault::Field);
     }
     Ok(Some(key))
 }
 
 /// A copy of a text that may not be there.
-fn copy_of(alloc: Global, text: &Option<String>) -> Result<Option<String>, Fault> {
+fn copy_of(alloc: Global, text: &Option<String>) -> Result<Option<String>, TaskFault> {
     match text {
         Some(text) => Ok(Some(String::from_str(alloc, text.as_str())?)),
         None => Ok(None),
@@ -112,7 +113,7 @@ pub(crate) fn access_of<'m, R: Files + Eprint>(
     alloc: Global,
     words: &ServeWords,
     meter: &'m Meter,
-) -> Result<Access<'m>, Fault> {
+) -> Result<Access<'m>, TaskFault> {
     let member = member_of(rt, words.file.as_str())?;
     Ok(Access {
         node: member.node,

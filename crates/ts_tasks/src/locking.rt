@@ -4,7 +4,7 @@ use std::alloc::Global;
 use std::fs::{File, OpenOptions, TryLockError};
 use std::os::unix::fs::OpenOptionsExt;
 use std::rt::Files;
-use ts_client::{Fault, fault_of, second};
+use ts_client::{TaskFault, fault_of, second};
 
 /// The two files of a record, locked against every other process that locks them so, for as long as
 /// this is kept. The locks go with the process, however it ends.
@@ -15,11 +15,11 @@ pub struct RecordLock {
 }
 
 /// A file that is there, or is made, and is locked.
-fn locked<R: Files<File = File> + Eprint>(
+fn locked_file<R: Files<File = File> + Eprint>(
     rt: &R,
     path: &str,
     is_made: bool,
-) -> Result<File, Fault> {
+) -> Result<File, TaskFault> {
     let opened = OpenOptions::new()
         .read(true)
         .write(true)
@@ -34,7 +34,7 @@ fn locked<R: Files<File = File> + Eprint>(
         Ok(()) => Ok(file),
         Err(TryLockError::WouldBlock) => {
             let _ = eprintln!(rt; "trustd: {path}: another process serves this record");
-            Err(Fault::Busy)
+            Err(TaskFault::Busy)
         }
         Err(TryLockError::Error(error)) => Err(fault_of(rt, path, &error)),
     }
@@ -50,7 +50,7 @@ impl RecordLock {
         rt: &R,
         alloc: Global,
         path: &str,
-    ) -> Result<RecordLock, Fault> {
+    ) -> Result<RecordLock, TaskFault> {
         RecordLock::take(rt, alloc, path, false)
     }
 
@@ -64,7 +64,7 @@ impl RecordLock {
         rt: &R,
         alloc: Global,
         path: &str,
-    ) -> Result<RecordLock, Fault> {
+    ) -> Result<RecordLock, TaskFault> {
         RecordLock::take(rt, alloc, path, true)
     }
 
@@ -74,10 +74,10 @@ impl RecordLock {
         alloc: Global,
         path: &str,
         is_made: bool,
-    ) -> Result<RecordLock, Fault> {
+    ) -> Result<RecordLock, TaskFault> {
         let second = second(alloc, path)?;
-        let file = locked(rt, path, is_made)?;
-        let other = locked(rt, second.as_str(), is_made)?;
+        let file = locked_file(rt, path, is_made)?;
+        let other = locked_file(rt, second.as_str(), is_made)?;
         Ok(RecordLock { file, other })
     }
 }

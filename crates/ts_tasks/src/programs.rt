@@ -13,15 +13,15 @@ use std::random::RandomSource;
 use std::rt::{Clock, Files};
 use ts_answer::Answers;
 use ts_cli::ServeWords;
-use ts_client::{Fault, MAX_TABLE, read_within};
+use ts_client::{MAX_TABLE, TaskFault, read_within};
 use ts_disk::Disk;
 use ts_loop::{Access, Group, Limits, LoopFault, serve_all};
 use ts_memo::{MemoCheck, ServedCheck};
-use ts_meter::{Meter, Metered};
+use ts_meter::{Meter, MeteredDisk};
 use ts_node::Node;
 use ts_serve::Server;
 use ts_sig::TableCheck;
-use ts_wire::NodeFault;
+use ts_synod::NodeFault;
 
 /// Makes the record of a node of a group, and says so.
 ///
@@ -34,7 +34,7 @@ pub fn format_record(
     node: u8,
     nodes: u8,
     group: u32,
-) -> Result<(), Fault>
+) -> Result<(), TaskFault>
     requires from { 1 ≤ node }
     requires to { node ≤ nodes }
     requires few { nodes ≤ 9 }
@@ -42,7 +42,7 @@ pub fn format_record(
     format_files(rt, rt.alloc(), file, node, nodes, group)?;
     match println!(rt; "formatted") {
         Ok(()) => Ok(()),
-        Err(_) => Err(Fault::Write),
+        Err(_) => Err(TaskFault::Write),
     }
 }
 
@@ -55,12 +55,18 @@ pub fn migrate_record(
     rt: &(impl AllocGlobal + Files<File = File> + Print + Eprint),
     old: &str,
     new: &str,
-) -> Result<(), Fault> {
+) -> Result<(), TaskFault> {
     let facts = migrate_files(rt, rt.alloc(), old, new)?;
     match println!(rt; "migrated {facts}") {
         Ok(()) => Ok(()),
-        Err(_) => Err(Fault::Write),
+        Err(_) => Err(TaskFault::Write),
     }
+}
+
+/// The table of signatures in a file.
+fn table_of<R: Files + Eprint>(rt: &R, alloc: Global, path: &str) -> Result<TableCheck, TaskFault> {
+    let text = read_within(rt, alloc, path, MAX_TABLE)?;
+    Ok(TableCheck::read(alloc, &text)?)
 }
 
 /// The check of signatures that the words choose.
@@ -68,17 +74,21 @@ fn check_of<R: Files + Eprint>(
     rt: &R,
     alloc: Global,
     words: &ServeWords,
-) -> Result<ServedCheck, Fault> {
+) -> Result<ServedCheck, TaskFault> {
     if words.stand_in {
         return Ok(ServedCheck::StandIn);
     }
-    let native = MemoCheck::new(alloc)?;
     let Some(path) = &words.table else {
-        return Ok(ServedCheck::Native(native));
+        return Ok(ServedCheck::Native(MemoCheck::new(alloc)?));
     };
-    let text = read_within(rt, alloc, path.as_str(), MAX_TABLE)?;
-    let table = TableCheck::read(alloc, &text)?;
-    Ok(ServedCheck::NativeOrTable(native, table))
+    let table = table_of(rt, alloc, path.as_str())?;
+    match MemoCheck::new(alloc) {
+        Ok(native) => Ok(ServedCheck::NativeOrTable(native, table)),
+        Err(error) => {
+            drop(table);
+            Err(TaskFault::from(error))
+        }
+    }
 }
 
 /// How many connections stand for no end.
@@ -107,44 +117,45 @@ fn http_of(words: &ServeWords) -> &str {
 }
 
 /// Why a loop ended, as the program's fault; standard error says what the system did not give.
-fn fault_of_loop(rt: &impl Eprint, words: &ServeWords, fault: LoopFault) -> Fault {
+fn fault_of_loop(rt: &impl Eprint, words: &ServeWords, fault: LoopFault) -> TaskFault {
     match fault {
         LoopFault::Listen => {
             let address = words.listen.as_str();
             let _ = eprintln!(rt; "trustd: {address}: can't be listened at; is it in use?");
-            Fault::Read
+            TaskFault::Read
         }
         LoopFault::Unprotected => {
             let address = words.listen.as_str();
             let _ = eprintln!(rt;
                 "trustd: {address}: other machines reach it: give --keys FILE, or --open"
             );
-            Fault::Unprotected
+            TaskFault::Unprotected
         }
         LoopFault::ListenHttp => {
             let address = http_of(words);
             let _ = eprintln!(rt; "trustd: {address}: can't be listened at; is it in use?");
-            Fault::Read
+            TaskFault::Read
         }
         LoopFault::UnprotectedHttp => {
             let address = http_of(words);
             let _ = eprintln!(rt;
                 "trustd: {address}: other machines reach it, and HTTP has no keys: give --open"
             );
-            Fault::Unprotected
+            TaskFault::Unprotected
         }
         LoopFault::Peer(node) => {
             let _ = eprintln!(rt; "trustd: the address of peer {node} can't be found");
-            Fault::Read
+            TaskFault::Read
         }
-        LoopFault::Poll => Fault::Read,
-        LoopFault::Clock => Fault::Clock,
-        LoopFault::Memory => Fault::Memory,
-        LoopFault::NodeFailed => Fault::Node(NodeFault::DiskFailed),
+        LoopFault::Poll => TaskFault::Read,
+        LoopFault::Clock => TaskFault::Clock,
+        LoopFault::Memory => TaskFault::Memory,
+        LoopFault::NodeFailed => TaskFault::Node(NodeFault::DiskFailed),
     }
 }
 
-/// Serves the node on two disks, whose signatures this check decides, to many clients at once.
+/// Serves the node on two disks, whose signatures this check decides, to many clients at once. What
+/// owns a node is let go by `drop`, which keeps the proof short.
 fn serve_node<
     D: Disk + Drop,
     R: Net<Listener = TcpListener, Stream = TcpStream> + Files + Clock + RandomSource + Eprint,
@@ -156,16 +167,24 @@ fn serve_node<
     words: &ServeWords,
     group: &Group,
     access: &mut Access<'_>,
-) -> Result<(), Fault> {
+) -> Result<(), TaskFault> {
     let (a, b) = disks;
     let node = match Node::open(alloc, a, b, Answers::new(alloc, check)) {
         Ok(node) => node,
-        Err(refused) => return Err(Fault::from(refused.fault)),
+        Err(refused) => {
+            let fault = refused.fault;
+            drop(refused);
+            return Err(TaskFault::from(fault));
+        }
     };
-    let Ok(mut server) = Server::new(alloc, node) else {
-        return Err(Fault::Memory);
+    let mut server = match Server::new(alloc, node) {
+        Ok(server) => server,
+        Err(node) => {
+            drop(node);
+            return Err(TaskFault::Memory);
+        }
     };
-    match serve_all(
+    let served = serve_all(
         rt,
         alloc,
         &mut server,
@@ -173,10 +192,86 @@ fn serve_node<
         &limits_of(words),
         group,
         access,
-    ) {
+    );
+    drop(server);
+    match served {
         Ok(_) => Ok(()),
         Err(fault) => Err(fault_of_loop(rt, words, fault)),
     }
+}
+
+/// The group of a node, and who may ask it.
+#[derive(Drop)]
+struct Setting<'m> {
+    group: Group,
+    access: Access<'m>,
+}
+
+/// The group and the access that the words name.
+fn setting_of<'m, R: Files + Eprint>(
+    rt: &R,
+    alloc: Global,
+    words: &ServeWords,
+    meter: &'m Meter,
+) -> Result<Setting<'m>, TaskFault> {
+    let group = group_of(rt, alloc, words)?;
+    match access_of(rt, alloc, words, meter) {
+        Ok(access) => Ok(Setting { group, access }),
+        Err(fault) => {
+            drop(group);
+            Err(fault)
+        }
+    }
+}
+
+/// Serves the node on two disks as the words say.
+fn serve_disks<
+    D: Disk + Drop,
+    R: Net<Listener = TcpListener, Stream = TcpStream> + Files + Clock + RandomSource + Eprint,
+>(
+    rt: &R,
+    alloc: Global,
+    disks: (D, D),
+    check: ServedCheck,
+    words: &ServeWords,
+    meter: &Meter,
+) -> Result<(), TaskFault> {
+    let mut setting = match setting_of(rt, alloc, words, meter) {
+        Ok(setting) => setting,
+        Err(fault) => {
+            drop((disks, check));
+            return Err(fault);
+        }
+    };
+    say_start(rt, words, &setting.group, &setting.access);
+    let (group, access) = (&setting.group, &mut setting.access);
+    let served = serve_node(rt, alloc, disks, check, words, group, access);
+    drop(setting);
+    served
+}
+
+/// Serves the node whose record is locked.
+fn serve_locked<
+    R: Net<Listener = TcpListener, Stream = TcpStream>
+        + Files<File = File>
+        + Clock
+        + RandomSource
+        + Eprint,
+>(rt: &R, alloc: Global, words: &ServeWords) -> Result<(), TaskFault> {
+    let meter = Meter::new();
+    let (a, b) = open_disks(rt, alloc, words.file.as_str())?;
+    let check = match check_of(rt, alloc, words) {
+        Ok(check) => check,
+        Err(fault) => {
+            drop((a, b));
+            return Err(fault);
+        }
+    };
+    if words.stand_in {
+        let _ = eprintln!(rt; "signatures are the examples' stand-in: anybody can forge them");
+    }
+    let disks = (MeteredDisk::new(a, &meter), MeteredDisk::new(b, &meter));
+    serve_disks(rt, alloc, disks, check, words, &meter)
 }
 
 /// Serves the node whose record lies in a file and the one beside it, as the words say. Signatures
@@ -196,19 +291,10 @@ pub fn serve_record<
         + Clock
         + RandomSource
         + Eprint,
->(rt: &R, words: &ServeWords) -> Result<(), Fault> {
+>(rt: &R, words: &ServeWords) -> Result<(), TaskFault> {
     let alloc = rt.alloc();
-    let file = words.file.as_str();
-    let _lock = RecordLock::of_record(rt, alloc, file)?;
-    let meter = Meter::new();
-    let (a, b) = open_disks(rt, alloc, file)?;
-    let disks = (Metered::new(a, &meter), Metered::new(b, &meter));
-    let check = check_of(rt, alloc, words)?;
-    if words.stand_in {
-        let _ = eprintln!(rt; "signatures are the examples' stand-in: anybody can forge them");
-    }
-    let group = group_of(rt, alloc, words)?;
-    let mut access = access_of(rt, alloc, words, &meter)?;
-    say_start(rt, words, &group, &access);
-    serve_node(rt, alloc, disks, check, words, &group, &mut access)
+    let lock = RecordLock::of_record(rt, alloc, words.file.as_str())?;
+    let served = serve_locked(rt, alloc, words);
+    drop(lock);
+    served
 }

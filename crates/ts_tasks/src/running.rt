@@ -9,7 +9,7 @@ use std::net::{Net, TcpListener, TcpStream};
 use std::random::RandomSource;
 use std::rt::{Clock, Files};
 use ts_cli::Task;
-use ts_client::{Ended, Fault, well};
+use ts_client::{Ending, TaskFault, well};
 
 /// Runs a task of a node or of a client (`ts_client`), but the lab and a verdict without a node,
 /// which end with statuses of their own.
@@ -27,7 +27,7 @@ pub fn run<
         + Eprint
         + Clone
         + Drop,
->(rt: &R, task: &Task) -> Result<Ended, Fault>
+>(rt: &R, task: &Task) -> Result<Ending, TaskFault>
     requires { IsInRange task.now }
 {
     match task {

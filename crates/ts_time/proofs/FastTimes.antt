@@ -44,7 +44,9 @@ to-nine octet h = let most = h.most in record { least = h.least; most = omega ar
 
 -- twelve digits, and Z
 utc-of-digits : (y z m n d e h i k l s t : ℕ)
-    → IsDigitTo 57 y → IsDigitTo 57 z → IsDigitTo 57 m → IsDigitTo 57 n → IsDigitTo 57 d → IsDigitTo 57 e → IsDigitTo 57 h → IsDigitTo 57 i → IsDigitTo 53 k → IsDigitTo 57 l → IsDigitTo 53 s → IsDigitTo 57 t
+    → IsDigitTo 57 y → IsDigitTo 57 z → IsDigitTo 57 m → IsDigitTo 57 n → IsDigitTo 57 d
+    → IsDigitTo 57 e → IsDigitTo 57 h → IsDigitTo 57 i → IsDigitTo 53 k → IsDigitTo 57 l
+    → IsDigitTo 53 s → IsDigitTo 57 t
     → 1 ≤ two m n → two m n ≤ 12 → 1 ≤ two d e → two d e ≤ days_in_month (year_of_two (two y z)) (two m n) → two h i ≤ 23
     → (moment : ℤ) × IsUtc (y ∷ z ∷ m ∷ n ∷ d ∷ e ∷ h ∷ i ∷ k ∷ l ∷ s ∷ t ∷ 90 ∷ []) moment
 utc-of-digits y z m n d e h i k l s t y_is z_is m_is n_is d_is e_is h_is i_is k_is l_is s_is t_is some few first last hours = (
@@ -104,7 +106,10 @@ pub utc-between : (octets : List ℕ) (month day hour : ℕ) → lie_between lea
     → hour ≡ two (at octets 6) (at octets 7) → 1 ≤ month → month ≤ 12 → 1 ≤ day → ((yy : ℕ) → yy ≡ two (at octets 0) (at octets 1) → day ≤ days_in_month (year_of_two yy) month) → hour ≤ 23
     → (moment : ℤ) × IsUtc (take 13 octets) moment
 utc-between octets month day hour h month_is day_is hour_is some few first_day last_day hours =
-    let found = utc-of-digits _ _ _ _ _ _ _ _ _ _ _ _ (nine 0 refl refl refl) (nine 1 refl refl refl) (nine 2 refl refl refl) (nine 3 refl refl refl) (nine 4 refl refl refl) (nine 5 refl refl refl) (nine 6 refl refl refl) (nine 7 refl refl refl)
+    let found = utc-of-digits _ _ _ _ _ _ _ _ _ _ _ _ (nine 0 refl refl refl)
+    (nine 1 refl refl refl) (nine 2 refl refl refl) (nine 3 refl refl refl)
+    (nine 4 refl refl refl) (nine 5 refl refl refl) (nine 6 refl refl refl)
+    (nine 7 refl refl refl)
     (five 8 refl refl refl) (nine 9 refl refl refl) (five 10 refl refl refl) (nine 11 refl refl refl) (omega arith) (omega arith) (omega arith) last (omega arith) in
     (found.0, rw encoded found.1)
   where
@@ -148,8 +153,12 @@ one-more : (l h octet : ℕ) (low high octets : List ℕ) → l ≤ octet → oc
 one-more l h octet low high octets least most rest = rw (le-leb l octet least, le-leb octet h most) rest
 
 -- a number in two digits, of which the first is not above this
-two-more : (n most : ℕ) (low high octets : List ℕ) → n / 10 + 48 ≤ most → lie_between low high octets ≡ true → lie_between (48 ∷ 48 ∷ low) (most ∷ 57 ∷ high) ((48 + n / 10) ∷ (48 + n % 10) ∷ octets) ≡ true
-two-more n most low high octets few rest = one-more 48 most (48 + n / 10) (48 ∷ low) (57 ∷ high) ((48 + n % 10) ∷ octets) (omega arith) (omega arith) (one-more 48 57 (48 + n % 10) low high octets (omega arith) (omega arith) rest)
+two-more : (n most : ℕ) (low high octets : List ℕ) → n / 10 + 48 ≤ most
+    → lie_between low high octets ≡ true
+    → lie_between (48 ∷ 48 ∷ low) (most ∷ 57 ∷ high) ((48 + n / 10) ∷ (48 + n % 10) ∷ octets) ≡ true
+two-more n most low high octets few rest = one-more 48 most (48 + n / 10) (48 ∷ low) (57 ∷ high)
+    ((48 + n % 10) ∷ octets) (omega arith) (omega arith)
+    (one-more 48 57 (48 + n % 10) low high octets (omega arith) (omega arith) rest)
 
 two-is : (n : ℕ) → two (48 + n / 10) (48 + n % 10) ≡ n
 two-is n = omega arith
@@ -158,7 +167,9 @@ two-is n = omega arith
 thirty-one : (year month : ℕ) → days_in_month year month ≤ 31
 thirty-one year month = grind arith
 
-time-told : (yy : ℕ) (time : CivilTime) (a b c : ℕ) (more : List ℕ) → yy < 100 → time.year ≡ year_of_two yy → Exists time → a < 256 → b < 256 → c < 256 → IsTold ((two_digits yy ++ text_in_year time) ++ (a ∷ b ∷ c ∷ more))
+time-told : (yy : ℕ) (time : CivilTime) (a b c : ℕ) (more : List ℕ) → yy < 100
+    → time.year ≡ year_of_two yy → Exists time → a < 256 → b < 256 → c < 256
+    → IsTold ((two_digits yy ++ text_in_year time) ++ (a ∷ b ∷ c ∷ more))
 time-told yy time a b c more low year exists x y z =
     let date = exists.date in
     let days = thirty-one time.year time.month in
@@ -166,13 +177,32 @@ time-told yy time a b c more low year exists x y z =
     let z_low : List ℕ = 90 ∷ 0 ∷ 0 ∷ 0 ∷ [] in
     let z_high : List ℕ = 90 ∷ 255 ∷ 255 ∷ 255 ∷ [] in
     let z_octets : List ℕ = 90 ∷ a ∷ b ∷ c ∷ more in
-    let z_is : lie_between z_low z_high z_octets ≡ true = rw (le-leb 0 a (omega arith), le-leb a 255 (omega arith), le-leb 0 b (omega arith), le-leb b 255 (omega arith), le-leb 0 c (omega arith), le-leb c 255 (omega arith)) refl in
+    let z_is : lie_between z_low z_high z_octets ≡ true =
+    rw (
+      le-leb 0 a (omega arith),
+      le-leb a 255 (omega arith),
+      le-leb 0 b (omega arith),
+      le-leb b
+          255 (omega arith),
+      le-leb 0 c (omega arith),
+      le-leb c 255 (omega arith),
+    ) refl in
     let seconds = two-more time.second 53 z_low z_high z_octets (omega (arith, exists.second)) z_is in
     let minutes = two-more time.minute 53 (48 ∷ 48 ∷ z_low) (53 ∷ 57 ∷ z_high) (two_digits time.second ++ z_octets) (omega (arith, exists.minute)) seconds in
     let hours = two-more time.hour 50 (48 ∷ 48 ∷ 48 ∷ 48 ∷ z_low) (53 ∷ 57 ∷ 53 ∷ 57 ∷ z_high) (two_digits time.minute ++ two_digits time.second ++ z_octets) (omega (arith, exists.hour)) minutes in
-    let days_is = two-more time.day 51 (48 ∷ 48 ∷ 48 ∷ 48 ∷ 48 ∷ 48 ∷ z_low) (50 ∷ 57 ∷ 53 ∷ 57 ∷ 53 ∷ 57 ∷ z_high) (two_digits time.hour ++ two_digits time.minute ++ two_digits time.second ++ z_octets) (omega (arith, last)) hours in
-    let months = two-more time.month 49 (48 ∷ 48 ∷ 48 ∷ 48 ∷ 48 ∷ 48 ∷ 48 ∷ 48 ∷ z_low) (51 ∷ 57 ∷ 50 ∷ 57 ∷ 53 ∷ 57 ∷ 53 ∷ 57 ∷ z_high) (two_digits time.day ++ two_digits time.hour ++ two_digits time.minute ++ two_digits time.second ++ z_octets) (omega (arith, date.month_in.1)) days_is in
-    let years = two-more yy 57 (48 ∷ 48 ∷ 48 ∷ 48 ∷ 48 ∷ 48 ∷ 48 ∷ 48 ∷ 48 ∷ 48 ∷ z_low) (49 ∷ 57 ∷ 51 ∷ 57 ∷ 50 ∷ 57 ∷ 53 ∷ 57 ∷ 53 ∷ 57 ∷ z_high) (two_digits time.month ++ two_digits time.day ++ two_digits time.hour ++ two_digits time.minute ++ two_digits time.second ++ z_octets) (omega (arith, low)) months in
+    let days_is = two-more time.day 51 (48 ∷ 48 ∷ 48 ∷ 48 ∷ 48 ∷ 48 ∷ z_low)
+    (50 ∷ 57 ∷ 53 ∷ 57 ∷ 53 ∷ 57 ∷ z_high)
+    (two_digits time.hour ++ two_digits time.minute ++ two_digits time.second ++ z_octets)
+    (omega (arith, last)) hours in
+    let months = two-more time.month 49 (48 ∷ 48 ∷ 48 ∷ 48 ∷ 48 ∷ 48 ∷ 48 ∷ 48 ∷ z_low)
+    (51 ∷ 57 ∷ 50 ∷ 57 ∷ 53 ∷ 57 ∷ 53 ∷ 57 ∷ z_high)
+    (two_digits time.day ++ two_digits time.hour ++ two_digits time.minute
+    ++ two_digits time.second ++ z_octets) (omega (arith, date.month_in.1)) days_is in
+    let years = two-more yy 57 (48 ∷ 48 ∷ 48 ∷ 48 ∷ 48 ∷ 48 ∷ 48 ∷ 48 ∷ 48 ∷ 48 ∷ z_low)
+    (49 ∷ 57 ∷ 51 ∷ 57 ∷ 50 ∷ 57 ∷ 53 ∷ 57 ∷ 53 ∷ 57 ∷ z_high)
+    (two_digits time.month ++ two_digits time.day ++ two_digits time.hour
+    ++ two_digits time.minute ++ two_digits time.second ++ z_octets)
+    (omega (arith, low)) months in
     record {
       between = years;
       some = rw (two-is time.month) date.month_in.0;

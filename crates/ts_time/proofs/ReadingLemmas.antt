@@ -1,5 +1,8 @@
 -- The moment that is read of octets is the one that they name, and each that they name is read.
-use Rattle.std.proofs.Common.{◌≡◌, ℕ, ◌+◌, ◌-◌, ◌*◌, ◌/◌, ◌%◌, ◌<◌, ◌≤◌, Bool, true, false, ◌&&◌, cond, eqb, leb, List, [], ◌∷◌, ◌++◌, length, codes, Option, Some, None, option_map, option_and_then, IfSome, inl, inr, refl, sym, ap, ◌∙◌, arith, ℤ}
+use Rattle.std.proofs.Common.{◌≡◌, ℕ, ◌+◌, ◌-◌, ◌*◌, ◌/◌, ◌%◌, ◌<◌, ◌≤◌, Bool, true, false, ◌&&◌}
+use Rattle.std.proofs.Common.{cond, eqb, leb, List, [], ◌∷◌, ◌++◌, length, codes, Option, Some}
+use Rattle.std.proofs.Common.{None, option_map, option_and_then, IfSome, inl, inr, refl, sym, ap}
+use Rattle.std.proofs.Common.{◌∙◌, arith, ℤ}
 use Rattle.std.specs.Char.{is_ascii_digit}
 use Rattle.std.specs.Int.{is_in_range}
 use Rattle.std.specs.List.{flat_map, AllByRecursion}
@@ -8,7 +11,7 @@ use Rattle.ts_time.specs.declared.civil.CivilTime.{CivilTime}
 use Rattle.ts_time.specs.Calendar.{IsDate, days_in_month}
 use Rattle.ts_time.specs.Civil.{Exists, moment_of}
 use Rattle.ts_time.specs.Text.{two_digits, general_text, year_of_two, IsGeneral, IsUtc}
-use Rattle.ts_time.specs.Reading.{number_of_two, numbers_in, is_date, does_exist, moment_if, moment_in, utc_moment, general_moment, utc_in, general_in}
+use Rattle.ts_time.specs.Reading.{number_of_two, numbers_in, is_date, does_exist, moment_if, moment_in, utc_moment, general_moment, utc_in, generalized_time_in}
 
 -- ---- numbers of two digits
 
@@ -226,15 +229,15 @@ general_moment-found text (century ∷ year ∷ numbers) m r h =
     }
 
 -- a moment that is read is the one that the octets name
-pub general_in-found : (text : List ℕ) (m : ℤ) → general_in text ≡ Some m → IsGeneral text m
-unfolding general_in
+pub general_in-found : (text : List ℕ) (m : ℤ) → generalized_time_in text ≡ Some m → IsGeneral text m
+unfolding generalized_time_in
 general_in-found text m h =
     let p = some_parts general_moment (numbers_in text) m h in
     general_moment-found text p.0 m (numbers_in-found text p.0 p.1) p.2
 
 -- a moment that the octets name is read
-pub general_in-only : (text : List ℕ) (m : ℤ) → IsGeneral text m → general_in text ≡ Some m
-unfolding general_in general_moment
+pub general_in-only : (text : List ℕ) (m : ℤ) → IsGeneral text m → generalized_time_in text ≡ Some m
+unfolding generalized_time_in general_moment
 general_in-only text m h =
     let high = h.exists.date.year_in in
     let numbers = h.time.year / 100 ∷ h.time.year % 100 ∷ behind_year h.time in

@@ -69,8 +69,8 @@ unfoldable pub utc_in : List ℕ → Option ℤ
 utc_in octets = option_and_then utc_moment (numbers_in octets)
 
 -- the moment that octets name as a GeneralizedTime, if they name one
-unfoldable pub general_in : List ℕ → Option ℤ
-general_in octets = option_and_then general_moment (numbers_in octets)
+unfoldable pub generalized_time_in : List ℕ → Option ℤ
+generalized_time_in octets = option_and_then general_moment (numbers_in octets)
 
 -- what the content octets of a UTCTime are read as
 abbrev pub utc_value : List ℕ → Result ℤ DerFault
@@ -78,4 +78,4 @@ utc_value content = ok_or (utc_in content) TimeForm
 
 -- what the content octets of a GeneralizedTime are read as
 abbrev pub general_value : List ℕ → Result ℤ DerFault
-general_value content = ok_or (general_in content) TimeForm
+general_value content = ok_or (generalized_time_in content) TimeForm

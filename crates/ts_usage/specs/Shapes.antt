@@ -31,8 +31,8 @@ abbrev pub words : Text → Rule
 words name = record (new_rule name) { action = Some Append; value_names = 1 }
 
 -- what has to be given
-abbrev pub needed : Rule → Rule
-needed rule = record rule { required = true }
+abbrev pub mandatory : Rule → Rule
+mandatory rule = record rule { required = true }
 
 -- ---- commands
 
@@ -57,8 +57,8 @@ choice name rules subs = record {
 }
 
 -- with a version, which `--version` prints
-abbrev pub versioned : App → App
-versioned app = record app { top = record app.top { has_version = true } }
+abbrev pub with_version : App → App
+with_version app = record app { top = record app.top { has_version = true } }
 
 -- with one more subcommand
 abbrev pub among : App → Shape → App
@@ -92,7 +92,7 @@ lab = leaf (codes "lab") []
 
 unfoldable pub format : Shape
 format = leaf (codes "format")
-    (word (codes "file") ∷ needed (option (codes "id")) ∷ needed (option (codes "nodes"))
+    (word (codes "file") ∷ mandatory (option (codes "id")) ∷ mandatory (option (codes "nodes"))
     ∷ option (codes "group") ∷ [])
 
 unfoldable pub migrate : Shape
@@ -116,7 +116,8 @@ with_access own = with_arguments own
 
 unfoldable pub serve : Shape
 serve = with_limits (with_access (with_group (leaf (codes "serve") (word (codes "file")
-    ∷ needed (option (codes "listen")) ∷ option (codes "table") ∷ flag (codes "stand-in") ∷ []))))
+    ∷ mandatory (option (codes "listen")) ∷ option (codes "table") ∷ flag (codes "stand-in") ∷
+    []))))
 
 -- what path validation is asked beside the certificates
 unfoldable pub with_inputs : Shape → Shape
@@ -126,8 +127,8 @@ with_inputs own = with_arguments own
     ∷ options (codes "policy") ∷ option (codes "purpose") ∷ [])
 
 unfoldable pub verify : Shape
-verify = with_inputs (leaf (codes "verify") (needed (options (codes "anchor"))
-    ∷ options (codes "crl") ∷ needed (words (codes "certificates")) ∷ flag (codes "json") ∷ []))
+verify = with_inputs (leaf (codes "verify") (mandatory (options (codes "anchor"))
+    ∷ options (codes "crl") ∷ mandatory (words (codes "certificates")) ∷ flag (codes "json") ∷ []))
 
 -- with the key that a node is shown
 unfoldable pub with_key : Shape → Shape
@@ -154,16 +155,17 @@ unfoldable pub keygen : Shape
 keygen = leaf (codes "keygen") (word (codes "role") ∷ option (codes "node") ∷ [])
 
 unfoldable pub carry : Shape
-carry = leaf (codes "carry") (needed (words (codes "addresses")) ∷ needed (option (codes "rounds"))
+carry = leaf (codes "carry") (mandatory (words (codes "addresses")) ∷ mandatory
+    (option (codes "rounds"))
     ∷ [])
 
 -- whose words go to another command line
-abbrev pub named : Text → Shape
-named name = leaf name []
+abbrev pub subcommand_shape : Text → Shape
+subcommand_shape name = leaf name []
 
 -- the tasks of a node
 unfoldable pub node_tasks : App
-node_tasks = with_tasks (versioned (choice (codes "trustd") [] []))
+node_tasks = with_tasks (with_version (choice (codes "trustd") [] []))
     (lab ∷ format ∷ migrate ∷ serve ∷ submit ∷ with_verdict (sending (codes "ask"))
     ∷ carry ∷ [])
 
@@ -205,7 +207,8 @@ sync = with_arguments (with_material (reaching (codes "sync")))
 
 unfoldable pub program : App
 program = among (with_listings (with_upkeep (with_tasks node_tasks
-    (verify ∷ named (codes "command") ∷ named (codes "question") ∷ reading (codes "id")
+    (verify ∷ subcommand_shape (codes "command") ∷ subcommand_shape (codes "question") ∷ reading
+    (codes "id")
     ∷ reading (codes "show") ∷ [])))) sync
 
 -- ---- `trustd command`
@@ -240,12 +243,12 @@ with_flags own = with_arguments own
 -- what both questions take after arguments of their own
 unfoldable pub with_terms : Shape → Shape
 with_terms own =
-    let begun = with_arguments own (needed (option (codes "at")) ∷ option (codes "k") ∷ []) in
+    let begun = with_arguments own (mandatory (option (codes "at")) ∷ option (codes "k") ∷ []) in
     with_arguments (with_flags begun) (options (codes "policy") ∷ option (codes "purpose") ∷ [])
 
 unfoldable pub chain : Shape
 chain = with_terms (leaf (codes "chain")
-    (needed (option (codes "anchor")) ∷ needed (words (codes "certificates")) ∷ []))
+    (mandatory (option (codes "anchor")) ∷ mandatory (words (codes "certificates")) ∷ []))
 
 unfoldable pub search : Shape
 search = with_terms (leaf (codes "search") (word (codes "leaf") ∷ words (codes "pool") ∷ []))

@@ -6,8 +6,9 @@ ghost use Rattle.ts_usage.specs.Shapes as shapes;
 ghost use Rattle.ts_usage.specs.Shapes.{IsLocal, IsShape};
 
 use crate::arguments::{
-    among, choice, flag, leaf, option, options, reading, with, with_own, word, words,
+    among, choice, command_of, flag, leaf, option, options, reading, with, with_own, word, words,
 };
+use crate::parcel::Making;
 use clap::Command;
 use std::alloc::{AllocError, Global};
 
@@ -17,7 +18,7 @@ fn naming<'a>(
     name: &'a str,
     about: &'a str,
     argument: &'a str,
-) -> Result<Command<'a>, AllocError>
+) -> Making<Command<'a>>
     ensures shape { IfOk result (IsShape (shapes.naming name.entry.now argument.entry.now)) }
     ensures local { IfOk result IsLocal }
 {
@@ -26,7 +27,7 @@ fn naming<'a>(
 }
 
 /// A CRL is added, checked where its issuer's certificate is given.
-fn load<'a>(alloc: Global) -> Result<Command<'a>, AllocError>
+fn load<'a>(alloc: Global) -> Making<Command<'a>>
     ensures shape { IfOk result (IsShape shapes.load) }
     ensures local { IfOk result IsLocal }
 {
@@ -39,7 +40,7 @@ fn load<'a>(alloc: Global) -> Result<Command<'a>, AllocError>
 }
 
 /// The purposes of an anchor.
-fn purposes<'a>(alloc: Global) -> Result<Command<'a>, AllocError>
+fn purposes<'a>(alloc: Global) -> Making<Command<'a>>
     ensures shape { IfOk result (IsShape shapes.purposes) }
     ensures local { IfOk result IsLocal }
 {
@@ -73,5 +74,5 @@ pub fn commands<'a>(alloc: Global) -> Result<Command<'a>, AllocError>
     let what = "Removes a CRL";
     let all = among(all, naming(alloc, "drop", what, "list"));
     let all = among(all, purposes(alloc));
-    among(all, leaf(alloc, "noop", "Changes nothing"))
+    command_of(among(all, leaf(alloc, "noop", "Changes nothing")))
 }

@@ -23,6 +23,7 @@
 mod arguments;
 mod command_shape;
 mod listing_shape;
+mod parcel;
 mod program_shape;
 mod question_shape;
 mod sync_shape;

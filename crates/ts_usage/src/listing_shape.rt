@@ -6,15 +6,13 @@ ghost use Rattle.ts_usage.specs.Shapes as shapes;
 ghost use Rattle.ts_usage.specs.Shapes.{IsApp, IsLocal, IsShape};
 
 use crate::arguments::{among, flag, leaf, option, with, word};
+use crate::parcel::Making;
 use crate::program_shape::{reaching, with_key};
 use clap::Command;
-use std::alloc::{AllocError, Global};
+use std::alloc::Global;
 
 /// A command with after how many commands the store is looked at, and whether JSON is printed.
-fn with_listing<'a>(
-    alloc: Global,
-    own: Result<Command<'a>, AllocError>,
-) -> Result<Command<'a>, AllocError>
+fn with_listing<'a>(alloc: Global, own: Making<Command<'a>>) -> Making<Command<'a>>
     ensures shape { (shape : Shape) → IfOk own.entry (IsShape shape)
         → IfOk result (IsShape (shapes.with_listing shape)) }
     ensures local { IfOk own.entry IsLocal → IfOk result IsLocal }
@@ -26,7 +24,7 @@ fn with_listing<'a>(
 }
 
 /// What a store holds.
-fn store<'a>(alloc: Global) -> Result<Command<'a>, AllocError>
+fn store<'a>(alloc: Global) -> Making<Command<'a>>
     ensures shape { IfOk result (IsShape shapes.store) }
     ensures local { IfOk result IsLocal }
 {
@@ -35,7 +33,7 @@ fn store<'a>(alloc: Global) -> Result<Command<'a>, AllocError>
 }
 
 /// The commands that a store took.
-fn log<'a>(alloc: Global) -> Result<Command<'a>, AllocError>
+fn log<'a>(alloc: Global) -> Making<Command<'a>>
     ensures shape { IfOk result (IsShape shapes.log) }
     ensures local { IfOk result IsLocal }
 {
@@ -49,7 +47,7 @@ fn log<'a>(alloc: Global) -> Result<Command<'a>, AllocError>
 }
 
 /// What changed in a store.
-fn diff<'a>(alloc: Global) -> Result<Command<'a>, AllocError>
+fn diff<'a>(alloc: Global) -> Making<Command<'a>>
     ensures shape { IfOk result (IsShape shapes.diff) }
     ensures local { IfOk result IsLocal }
 {
@@ -62,10 +60,7 @@ fn diff<'a>(alloc: Global) -> Result<Command<'a>, AllocError>
 }
 
 /// The tasks that print what a store holds, after those that the program has.
-pub(crate) fn with_listings<'a>(
-    alloc: Global,
-    program: Result<Command<'a>, AllocError>,
-) -> Result<Command<'a>, AllocError>
+pub(crate) fn with_listings<'a>(alloc: Global, program: Making<Command<'a>>) -> Making<Command<'a>>
     ensures { (app : App) → IfOk program.entry (IsApp app)
         → IfOk result (IsApp (shapes.with_listings app)) }
 {

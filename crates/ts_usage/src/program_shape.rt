@@ -6,9 +6,11 @@ ghost use Rattle.ts_usage.specs.Shapes as shapes;
 ghost use Rattle.ts_usage.specs.Shapes.{IsApp, IsLocal, IsShape};
 
 use crate::arguments::{
-    among, choice, flag, leaf, needed, option, options, reading, versioned, with, word, words,
+    among, choice, command_of, flag, leaf, mandatory, option, options, reading, with, with_version,
+    word, words,
 };
 use crate::listing_shape::with_listings;
+use crate::parcel::Making;
 use crate::sync_shape::sync;
 use crate::verdict_shape::with_verdict;
 use crate::verify_shape::verify;
@@ -19,7 +21,7 @@ use std::alloc::{AllocError, Global};
 pub const VERSION: &str = "0.9.0";
 
 /// The record of a node is made.
-fn format<'a>(alloc: Global) -> Result<Command<'a>, AllocError>
+fn format<'a>(alloc: Global) -> Making<Command<'a>>
     ensures shape { IfOk result (IsShape shapes.format) }
     ensures local { IfOk result IsLocal }
 {
@@ -30,8 +32,8 @@ fn format<'a>(alloc: Global) -> Result<Command<'a>, AllocError>
         leaf(alloc, "format", about),
         word(alloc, "file", "FILE", record),
     );
-    let id = needed(option(alloc, "id", "I", "Which node it is, 1 to 9"));
-    let nodes = needed(option(alloc, "nodes", "N", nodes));
+    let id = mandatory(option(alloc, "id", "I", "Which node it is, 1 to 9"));
+    let nodes = mandatory(option(alloc, "nodes", "N", nodes));
     let group = "Of which group, a number below 2^32 that all its nodes have; none if not given";
     with(
         with(with(command, id), nodes),
@@ -40,7 +42,7 @@ fn format<'a>(alloc: Global) -> Result<Command<'a>, AllocError>
 }
 
 /// A record of version 1 is written again as one of version 2.
-fn migrate<'a>(alloc: Global) -> Result<Command<'a>, AllocError>
+fn migrate<'a>(alloc: Global) -> Making<Command<'a>>
     ensures shape { IfOk result (IsShape shapes.migrate) }
     ensures local { IfOk result IsLocal }
 {
@@ -51,10 +53,7 @@ fn migrate<'a>(alloc: Global) -> Result<Command<'a>, AllocError>
 }
 
 /// A command with how long a client is waited for, and how many are served at once.
-fn with_limits<'a>(
-    alloc: Global,
-    own: Result<Command<'a>, AllocError>,
-) -> Result<Command<'a>, AllocError>
+fn with_limits<'a>(alloc: Global, own: Making<Command<'a>>) -> Making<Command<'a>>
     ensures shape { (shape : Shape) → IfOk own.entry (IsShape shape)
         → IfOk result (IsShape (shapes.with_limits shape)) }
     ensures local { IfOk own.entry IsLocal → IfOk result IsLocal }
@@ -70,10 +69,7 @@ fn with_limits<'a>(
 }
 
 /// A command with whom messages are carried to, and whether standard error is told what happens.
-fn with_group<'a>(
-    alloc: Global,
-    own: Result<Command<'a>, AllocError>,
-) -> Result<Command<'a>, AllocError>
+fn with_group<'a>(alloc: Global, own: Making<Command<'a>>) -> Making<Command<'a>>
     ensures shape { (shape : Shape) → IfOk own.entry (IsShape shape)
         → IfOk result (IsShape (shapes.with_group shape)) }
     ensures local { IfOk own.entry IsLocal → IfOk result IsLocal }
@@ -84,11 +80,9 @@ fn with_group<'a>(
     with(all, flag(alloc, "quiet", help))
 }
 
-/// A command with whose requests are taken, what the node shows its peers, and where HTTP is spoken.
-fn with_access<'a>(
-    alloc: Global,
-    own: Result<Command<'a>, AllocError>,
-) -> Result<Command<'a>, AllocError>
+/// A command with whose requests are taken, what the node shows its peers, and where HTTP is
+/// spoken.
+fn with_access<'a>(alloc: Global, own: Making<Command<'a>>) -> Making<Command<'a>>
     ensures shape { (shape : Shape) → IfOk own.entry (IsShape shape)
         → IfOk result (IsShape (shapes.with_access shape)) }
     ensures local { IfOk own.entry IsLocal → IfOk result IsLocal }
@@ -104,7 +98,7 @@ fn with_access<'a>(
 }
 
 /// A node is served.
-fn serve<'a>(alloc: Global) -> Result<Command<'a>, AllocError>
+fn serve<'a>(alloc: Global) -> Making<Command<'a>>
     ensures shape { IfOk result (IsShape shapes.serve) }
     ensures local { IfOk result IsLocal }
 {
@@ -116,17 +110,14 @@ fn serve<'a>(alloc: Global) -> Result<Command<'a>, AllocError>
         leaf(alloc, "serve", about),
         word(alloc, "file", "FILE", record),
     );
-    let listen = needed(option(alloc, "listen", "ADDR", "HOST:PORT to listen at"));
+    let listen = mandatory(option(alloc, "listen", "ADDR", "HOST:PORT to listen at"));
     let command = with(with(command, listen), option(alloc, "table", "FILE", table));
     let command = with(command, flag(alloc, "stand-in", stand_in));
     with_limits(alloc, with_access(alloc, with_group(alloc, command)))
 }
 
 /// A command with the key that a node is shown.
-pub(crate) fn with_key<'a>(
-    alloc: Global,
-    own: Result<Command<'a>, AllocError>,
-) -> Result<Command<'a>, AllocError>
+pub(crate) fn with_key<'a>(alloc: Global, own: Making<Command<'a>>) -> Making<Command<'a>>
     ensures shape { (shape : Shape) → IfOk own.entry (IsShape shape)
         → IfOk result (IsShape (shapes.with_key shape)) }
     ensures local { IfOk own.entry IsLocal → IfOk result IsLocal }
@@ -136,12 +127,7 @@ pub(crate) fn with_key<'a>(
 }
 
 /// A command with an address and a file.
-fn sending<'a>(
-    alloc: Global,
-    name: &'a str,
-    about: &'a str,
-    help: &'a str,
-) -> Result<Command<'a>, AllocError>
+fn sending<'a>(alloc: Global, name: &'a str, about: &'a str, help: &'a str) -> Making<Command<'a>>
     ensures shape { IfOk result (IsShape (shapes.sending name.entry.now)) }
     ensures local { IfOk result IsLocal }
 {
@@ -151,7 +137,7 @@ fn sending<'a>(
 }
 
 /// A command is handed to a node.
-fn submit<'a>(alloc: Global) -> Result<Command<'a>, AllocError>
+fn submit<'a>(alloc: Global) -> Making<Command<'a>>
     ensures shape { IfOk result (IsShape shapes.submit) }
     ensures local { IfOk result IsLocal }
 {
@@ -162,11 +148,7 @@ fn submit<'a>(alloc: Global) -> Result<Command<'a>, AllocError>
 }
 
 /// A command with an address.
-pub(crate) fn reaching<'a>(
-    alloc: Global,
-    name: &'a str,
-    about: &'a str,
-) -> Result<Command<'a>, AllocError>
+pub(crate) fn reaching<'a>(alloc: Global, name: &'a str, about: &'a str) -> Making<Command<'a>>
     ensures shape { IfOk result (IsShape (shapes.reaching name.entry.now)) }
     ensures local { IfOk result IsLocal }
 {
@@ -175,7 +157,7 @@ pub(crate) fn reaching<'a>(
 }
 
 /// A key is made.
-fn keygen<'a>(alloc: Global) -> Result<Command<'a>, AllocError>
+fn keygen<'a>(alloc: Global) -> Making<Command<'a>>
     ensures shape { IfOk result (IsShape shapes.keygen) }
     ensures local { IfOk result IsLocal }
 {
@@ -189,10 +171,7 @@ fn keygen<'a>(alloc: Global) -> Result<Command<'a>, AllocError>
 }
 
 /// The tasks of a node's upkeep, after those that the program has.
-fn with_upkeep<'a>(
-    alloc: Global,
-    program: Result<Command<'a>, AllocError>,
-) -> Result<Command<'a>, AllocError>
+fn with_upkeep<'a>(alloc: Global, program: Making<Command<'a>>) -> Making<Command<'a>>
     ensures { (app : App) → IfOk program.entry (IsApp app)
         → IfOk result (IsApp (shapes.with_upkeep app)) }
 {
@@ -208,23 +187,23 @@ fn with_upkeep<'a>(
 }
 
 /// Messages are carried between nodes.
-fn carry<'a>(alloc: Global) -> Result<Command<'a>, AllocError>
+fn carry<'a>(alloc: Global) -> Making<Command<'a>>
     ensures shape { IfOk result (IsShape shapes.carry) }
     ensures local { IfOk result IsLocal }
 {
     let help = "HOST:PORT of each node, one to nine";
-    let addresses = needed(words(alloc, "addresses", "ADDR", help));
-    let rounds = needed(option(alloc, "rounds", "R", "How many times, 1 to 1000000"));
+    let addresses = mandatory(words(alloc, "addresses", "ADDR", help));
+    let rounds = mandatory(option(alloc, "rounds", "R", "How many times, 1 to 1000000"));
     let command = leaf(alloc, "carry", "Carries messages between nodes");
     with(with(command, addresses), rounds)
 }
 
 /// The tasks of a node, which are the first of the program.
-fn node_tasks<'a>(alloc: Global) -> Result<Command<'a>, AllocError>
+fn node_tasks<'a>(alloc: Global) -> Making<Command<'a>>
     ensures { IfOk result (IsApp shapes.node_tasks) }
 {
     let about = "A replicated trust store for X.509 certificates";
-    let program = versioned(choice(alloc, "trustd", about, "trustd"), VERSION);
+    let program = with_version(choice(alloc, "trustd", about, "trustd"), VERSION);
     let program = among(
         program,
         leaf(alloc, "lab", "Answers the script on standard input"),
@@ -258,5 +237,5 @@ pub fn program<'a>(alloc: Global) -> Result<Command<'a>, AllocError>
         reading(alloc, "show", "Prints what a file holds", "FILE", what),
     );
     let program = with_listings(alloc, with_upkeep(alloc, program));
-    among(program, sync(alloc))
+    command_of(among(program, sync(alloc)))
 }

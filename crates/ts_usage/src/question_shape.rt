@@ -5,15 +5,15 @@ ghost use Rattle.clap.specs.Simple.{Shape, app_of};
 ghost use Rattle.ts_usage.specs.Shapes as shapes;
 ghost use Rattle.ts_usage.specs.Shapes.{IsLocal, IsShape};
 
-use crate::arguments::{among, choice, flag, leaf, needed, option, options, with, word, words};
+use crate::arguments::{
+    among, choice, command_of, flag, leaf, mandatory, option, options, with, word, words,
+};
+use crate::parcel::Making;
 use clap::Command;
 use std::alloc::{AllocError, Global};
 
 /// A question with the flags that both take.
-fn with_flags<'a>(
-    alloc: Global,
-    own: Result<Command<'a>, AllocError>,
-) -> Result<Command<'a>, AllocError>
+fn with_flags<'a>(alloc: Global, own: Making<Command<'a>>) -> Making<Command<'a>>
     ensures shape { (shape : Shape) → IfOk own.entry (IsShape shape)
         → IfOk result (IsShape (shapes.with_flags shape)) }
     ensures local { IfOk own.entry IsLocal → IfOk result IsLocal }
@@ -30,16 +30,13 @@ fn with_flags<'a>(
 }
 
 /// A question with the options that both take after its own.
-fn with_terms<'a>(
-    alloc: Global,
-    own: Result<Command<'a>, AllocError>,
-) -> Result<Command<'a>, AllocError>
+fn with_terms<'a>(alloc: Global, own: Making<Command<'a>>) -> Making<Command<'a>>
     ensures shape { (shape : Shape) → IfOk own.entry (IsShape shape)
         → IfOk result (IsShape (shapes.with_terms shape)) }
     ensures local { IfOk own.entry IsLocal → IfOk result IsLocal }
 {
     let at = option(alloc, "at", "TIME", "The moment, as 20260101000000Z");
-    let all = with(own, needed(at));
+    let all = with(own, mandatory(at));
     let help = "After how many commands; all if not given";
     let all = with_flags(alloc, with(all, option(alloc, "k", "K", help)));
     let help = "A policy that the user accepts";
@@ -51,20 +48,23 @@ fn with_terms<'a>(
 }
 
 /// A chain is judged.
-fn chain<'a>(alloc: Global) -> Result<Command<'a>, AllocError>
+fn chain<'a>(alloc: Global) -> Making<Command<'a>>
     ensures shape { IfOk result (IsShape shapes.chain) }
     ensures local { IfOk result IsLocal }
 {
     let command = leaf(alloc, "chain", "Is this chain valid under this anchor?");
     let help = "The id of the anchor, 64 lower-case hexadecimal digits";
-    let command = with(command, needed(option(alloc, "anchor", "ID", help)));
+    let command = with(command, mandatory(option(alloc, "anchor", "ID", help)));
     let help = "The chain from the anchor's side, 1 to 16, in PEM or DER";
-    let command = with(command, needed(words(alloc, "certificates", "CERT", help)));
+    let command = with(
+        command,
+        mandatory(words(alloc, "certificates", "CERT", help)),
+    );
     with_terms(alloc, command)
 }
 
 /// A chain is looked for.
-fn search<'a>(alloc: Global) -> Result<Command<'a>, AllocError>
+fn search<'a>(alloc: Global) -> Making<Command<'a>>
     ensures shape { IfOk result (IsShape shapes.search) }
     ensures local { IfOk result IsLocal }
 {
@@ -85,5 +85,5 @@ pub fn questions<'a>(alloc: Global) -> Result<Command<'a>, AllocError>
     let about = "Writes an encoded question to standard output";
     let all = choice(alloc, "question", about, "trustd question");
     let all = among(all, chain(alloc));
-    among(all, search(alloc))
+    command_of(among(all, search(alloc)))
 }

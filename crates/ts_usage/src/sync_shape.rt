@@ -6,15 +6,13 @@ ghost use Rattle.ts_usage.specs.Shapes as shapes;
 ghost use Rattle.ts_usage.specs.Shapes.{IsLocal, IsShape};
 
 use crate::arguments::{flag, option, options, with};
+use crate::parcel::Making;
 use crate::program_shape::reaching;
 use clap::Command;
-use std::alloc::{AllocError, Global};
+use std::alloc::Global;
 
 /// A command with the files of what a store is to hold, and of those who may have signed it.
-fn with_material<'a>(
-    alloc: Global,
-    own: Result<Command<'a>, AllocError>,
-) -> Result<Command<'a>, AllocError>
+fn with_material<'a>(alloc: Global, own: Making<Command<'a>>) -> Making<Command<'a>>
     ensures shape { (shape : Shape) → IfOk own.entry (IsShape shape)
         → IfOk result (IsShape (shapes.with_material shape)) }
     ensures local { IfOk own.entry IsLocal → IfOk result IsLocal }
@@ -30,7 +28,7 @@ fn with_material<'a>(
 }
 
 /// A store is made to hold what files hold.
-pub(crate) fn sync<'a>(alloc: Global) -> Result<Command<'a>, AllocError>
+pub(crate) fn sync<'a>(alloc: Global) -> Making<Command<'a>>
     ensures shape { IfOk result (IsShape shapes.sync) }
     ensures local { IfOk result IsLocal }
 {

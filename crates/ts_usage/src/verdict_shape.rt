@@ -6,14 +6,12 @@ ghost use Rattle.ts_usage.specs.Shapes as shapes;
 ghost use Rattle.ts_usage.specs.Shapes.{IsLocal, IsShape};
 
 use crate::arguments::{flag, with};
+use crate::parcel::Making;
 use clap::Command;
-use std::alloc::{AllocError, Global};
+use std::alloc::Global;
 
 /// A command with what is made of the verdict that it prints.
-pub(crate) fn with_verdict<'a>(
-    alloc: Global,
-    own: Result<Command<'a>, AllocError>,
-) -> Result<Command<'a>, AllocError>
+pub(crate) fn with_verdict<'a>(alloc: Global, own: Making<Command<'a>>) -> Making<Command<'a>>
     ensures shape { (shape : Shape) → IfOk own.entry (IsShape shape)
         → IfOk result (IsShape (shapes.with_verdict shape)) }
     ensures local { IfOk own.entry IsLocal → IfOk result IsLocal }

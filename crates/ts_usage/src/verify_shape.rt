@@ -5,15 +5,13 @@ ghost use Rattle.clap.specs.Simple.{Shape};
 ghost use Rattle.ts_usage.specs.Shapes as shapes;
 ghost use Rattle.ts_usage.specs.Shapes.{IsLocal, IsShape};
 
-use crate::arguments::{flag, leaf, needed, option, options, with, words};
+use crate::arguments::{flag, leaf, mandatory, option, options, with, words};
+use crate::parcel::Making;
 use clap::Command;
-use std::alloc::{AllocError, Global};
+use std::alloc::Global;
 
 /// A command with what path validation is asked beside the certificates.
-fn with_inputs<'a>(
-    alloc: Global,
-    own: Result<Command<'a>, AllocError>,
-) -> Result<Command<'a>, AllocError>
+fn with_inputs<'a>(alloc: Global, own: Making<Command<'a>>) -> Making<Command<'a>>
     ensures shape { (shape : Shape) → IfOk own.entry (IsShape shape)
         → IfOk result (IsShape (shapes.with_inputs shape)) }
     ensures local { IfOk own.entry IsLocal → IfOk result IsLocal }
@@ -35,7 +33,7 @@ fn with_inputs<'a>(
 }
 
 /// A chain is judged without a node.
-pub(crate) fn verify<'a>(alloc: Global) -> Result<Command<'a>, AllocError>
+pub(crate) fn verify<'a>(alloc: Global) -> Making<Command<'a>>
     ensures shape { IfOk result (IsShape shapes.verify) }
     ensures local { IfOk result IsLocal }
 {
@@ -45,11 +43,14 @@ pub(crate) fn verify<'a>(alloc: Global) -> Result<Command<'a>, AllocError>
         "Judges a certificate chain, without a node",
     );
     let help = "Trust anchors, in PEM or DER; several files by several --anchor";
-    let command = with(command, needed(options(alloc, "anchor", "FILE", help)));
+    let command = with(command, mandatory(options(alloc, "anchor", "FILE", help)));
     let help = "CRLs, in PEM or DER; revocation is then checked";
     let command = with(command, options(alloc, "crl", "FILE", help));
     let help = "The leaf and the certificates between, in PEM or DER, in any order";
-    let command = with(command, needed(words(alloc, "certificates", "CERT", help)));
+    let command = with(
+        command,
+        mandatory(words(alloc, "certificates", "CERT", help)),
+    );
     let help = "Print one JSON object on one line";
     let command = with(command, flag(alloc, "json", help));
     with_inputs(alloc, command)

@@ -1,22 +1,22 @@
 -- The verdict on the chain that is judged.
 use Rattle.std.proofs.Common.{◌≡◌, ℕ, List, ◌∷◌, ◌++◌, map, length, Some, slice_get, refl, sym, ap, ◌∙◌, subst}
 use Rattle.std.specs.Prelude.{Vec}
-use Rattle.std.specs.Borrow.{Bor}
 use Rattle.std.specs.declared.alloc.Global.{Global}
+use Rattle.ts_der.specs.declared.oid.OidRef.{OidRef}
 use Rattle.ts_cert.specs.Certificate.{Certificate}
 use Rattle.ts_path.specs.Asked.{TrustAnchor}
 use Rattle.ts_path.specs.Verdict.{IsVerdict}
 use Rattle.ts_path.specs.declared.verdict.Verdict.{Verdict}
 use Rattle.ts_path.specs.declared.verdict.Verdict.TheVariants.{Valid}
-use Rattle.ts_search.specs.Search.{Search, IsAnswer, certificates_at, question}
-use Rattle.ts_search.specs.declared.answer.Answer.{Answer}
-use Rattle.ts_search.specs.declared.answer.Answer.TheVariants.{Found, NoPath, SearchLimit}
+use Rattle.ts_search.specs.Search.{Search, IsSearchAnswer, certificates_at, question}
+use Rattle.ts_search.specs.declared.answer.SearchAnswer.{SearchAnswer}
+use Rattle.ts_search.specs.declared.answer.SearchAnswer.TheVariants.{Found, NoPath, SearchLimit}
 use Rattle.ts_verify.specs.Judged.{IsJudged}
-use Rattle.ts_verify.specs.Judging.{IsExplained}
+use Rattle.ts_verify.specs.inside.Judging.{IsExplained}
 use Rattle.ts_verify.proofs.Places.{at_middle}
 
-pub found_is : (s : Search) (number : ℕ) (places : Vec ℕ Global) (policies : Vec (Bor (List ℕ)) Global)
-    (chain : List Certificate) → IsAnswer s (Found number places policies)
+pub found_is : (s : Search) (number : ℕ) (places : Vec ℕ Global) (policies : Vec OidRef Global)
+    (chain : List Certificate) → IsSearchAnswer s (Found number places policies)
     → chain ≡ certificates_at s.certificates places.items
     → IsJudged s number chain (Valid policies)
 found_is s number places policies chain h e =
@@ -35,7 +35,7 @@ found_is s number places policies chain h e =
     }
 
 pub none_is : (s : Search) (place : ℕ) (chain : List Certificate) (verdict : Verdict)
-    → IsAnswer s NoPath → IsExplained s place chain verdict → IsJudged s place chain verdict
+    → IsSearchAnswer s NoPath → IsExplained s place chain verdict → IsJudged s place chain verdict
 none_is s place chain verdict h e = record {
   answer = NoPath;
   is_answer = h;
@@ -46,7 +46,7 @@ none_is s place chain verdict h e = record {
 }
 
 pub limit_is : (s : Search) (place : ℕ) (chain : List Certificate) (verdict : Verdict)
-    → IsAnswer s SearchLimit → IsExplained s place chain verdict → IsJudged s place chain verdict
+    → IsSearchAnswer s SearchLimit → IsExplained s place chain verdict → IsJudged s place chain verdict
 limit_is s place chain verdict h e = record {
   answer = SearchLimit;
   is_answer = h;

@@ -5,14 +5,14 @@ use Rattle.ts_cert.specs.CertView.{cert_in}
 use Rattle.ts_path.specs.Asked.{TrustAnchor}
 use Rattle.ts_path.specs.Verdict.{IsVerdict}
 use Rattle.ts_path.specs.declared.verdict.Verdict.{Verdict}
-use Rattle.ts_search.specs.Search.{Search, IsAnswer, certificates_at, question}
-use Rattle.ts_search.specs.declared.answer.Answer.{Answer}
-use Rattle.ts_search.specs.declared.answer.Answer.TheVariants.{Found, NoPath, SearchLimit}
+use Rattle.ts_search.specs.Search.{Search, IsSearchAnswer, certificates_at, question}
+use Rattle.ts_search.specs.declared.answer.SearchAnswer.{SearchAnswer}
+use Rattle.ts_search.specs.declared.answer.SearchAnswer.TheVariants.{Found, NoPath, SearchLimit}
 use Rattle.ts_verify.specs.Lines.{IsLine}
 
 -- the chain and the anchor, by its place, are those that the search found; where it found none, the
 -- chain is one by names
-abbrev pub AreChosen : Search → Answer → ℕ → List Certificate → Type 0
+abbrev pub AreChosen : Search → SearchAnswer → ℕ → List Certificate → Type 0
 AreChosen s (Found number places policies) place chain =
     (place ≡ number) × (chain ≡ certificates_at s.certificates places.items)
 AreChosen s NoPath place chain = IsLine s.certificates chain
@@ -22,8 +22,8 @@ AreChosen s SearchLimit place chain = IsLine s.certificates chain
 -- the anchor at this place. It is valid wherever the search finds a chain, and then on that chain.
 pub record IsJudged (s : Search) (place : ℕ) (chain : List Certificate) (verdict : Verdict)
     : Type 0 where
-  pub answer : Answer
-  pub is_answer : IsAnswer s answer
+  pub answer : SearchAnswer
+  pub is_answer : IsSearchAnswer s answer
   pub chosen : AreChosen s answer place chain
   pub anchor : TrustAnchor
   pub anchor_is : slice_get s.anchors place ≡ Some anchor

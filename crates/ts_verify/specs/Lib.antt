@@ -1,5 +1,5 @@
 pub mod Leaf
 pub mod Lines
 pub mod Judged
-pub mod Judging
 pub mod Report
+pub mod inside

@@ -4,10 +4,10 @@ use Rattle.ts_ext.specs.GeneralNames.{general_names_of}
 use Rattle.ts_ext.specs.declared.known.Known.TheVariants.{SubjectAltName}
 use Rattle.ts_cert.specs.Certificate.{Certificate}
 use Rattle.ts_cert.specs.CertView.{cert_in}
-use Rattle.ts_cert.specs.Stated.{stated}
+use Rattle.ts_cert.specs.Stated.{stated_value}
 use Rattle.ts_host.specs.Hosts.{IsFor}
 use Rattle.ts_host.specs.declared.host.Host.{Host}
-use Rattle.ts_path.specs.Asked.{TrustAnchor, Asked}
+use Rattle.ts_path.specs.Asked.{TrustAnchor, ValidationInputs}
 use Rattle.ts_path.specs.declared.verdict.Verdict.{Verdict}
 use Rattle.ts_path.specs.declared.verdict.Verdict.TheVariants as verdict
 use Rattle.ts_search.specs.Search.{Search}
@@ -21,7 +21,7 @@ use Rattle.ts_verify.specs.Judged.{IsJudged}
 abbrev pub IsForAsked : Option Host → Certificate → Type 0
 IsForAsked None leaf = Unit {0}
 IsForAsked (Some host) leaf =
-    IsFor host (stated SubjectAltName general_names_of leaf.tbsCertificate)
+    IsFor host (stated_value SubjectAltName general_names_of leaf.tbsCertificate)
 
 -- the first of the certificates, the leaf, is for the host
 abbrev pub IsLeafFor : Option Host → List Certificate → Type 0
@@ -38,7 +38,8 @@ Says host certificates (verdict.Invalid position reason) (Invalid place why) =
 Says host certificates verdict finding = ⊥
 
 -- the search among certificates of which the leaf is the first
-abbrev pub search_with : List TrustAnchor → (TrustAnchor → Asked) → List Certificate → Search
+abbrev pub search_with : List TrustAnchor → (TrustAnchor → ValidationInputs) → List Certificate
+    → Search
 search_with anchors asked certificates =
     record { certificates = certificates; anchors = anchors; asked = asked }
 

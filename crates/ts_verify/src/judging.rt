@@ -2,22 +2,22 @@
 
 ghost use Rattle.std.specs.Prelude.{◌≤◌, length, map, IfOk};
 ghost use Rattle.ts_cert.specs.CertView.{cert_in};
-ghost use Rattle.ts_search.specs.Search.{IsAnswer};
+ghost use Rattle.ts_search.specs.Search.{IsSearchAnswer};
 ghost use Rattle.ts_search.specs.View.{search_among};
 ghost use Rattle.ts_verify.specs.Judged.{IsJudged};
-ghost use Rattle.ts_verify.specs.Judging.{IsExplained};
+ghost use Rattle.ts_verify.specs.inside.Judging.{IsExplained};
 
 use crate::line::{anchor_above, line_of};
 use std::alloc::{AllocError, Global};
 use ts_cert::Cert;
 use ts_path::{Anchor, Inputs, Verdict, validate};
 use ts_revoke::Crls;
-use ts_search::{Answer, certificates_at, search};
+use ts_search::{SearchAnswer, certificates_at, search};
 use ts_sig::SignatureCheck;
 
 /// A chain under an anchor, and the verdict on it.
 #[derive(Drop)]
-pub(crate) struct Judged<'a> {
+pub(crate) struct JudgedChain<'a> {
     /// The place of the anchor.
     pub(crate) place: usize,
     /// From the anchor's side.
@@ -33,7 +33,7 @@ fn explain<'a, S: SignatureCheck>(
     inputs: &Inputs<'a>,
     crls: &Crls<'_>,
     check: &S,
-) -> Result<Judged<'a>, AllocError>
+) -> Result<JudgedChain<'a>, AllocError>
     requires some { 1 ≤ length certificates.now }
     requires anchored { 1 ≤ length anchors.now }
     ensures { IfOk result (λ j. IsExplained
@@ -44,7 +44,7 @@ fn explain<'a, S: SignatureCheck>(
     let place = anchor_above(anchors, &chain[0]).unwrap_or(0);
     let anchor = anchors[place];
     let verdict = validate(alloc, &anchor, &chain, inputs, crls, check)?;
-    Ok(Judged {
+    Ok(JudgedChain {
         place,
         chain,
         verdict,
@@ -59,10 +59,10 @@ fn found_among<'a, S: SignatureCheck>(
     inputs: &Inputs<'a>,
     crls: &Crls<'_>,
     check: &S,
-) -> Result<Answer<'a>, AllocError>
+) -> Result<SearchAnswer<'a>, AllocError>
     requires some { 1 ≤ length certificates.now }
     requires few { length certificates.now ≤ 33 }
-    ensures { IfOk result (IsAnswer
+    ensures { IfOk result (IsSearchAnswer
         (search_among certificates.now anchors.now inputs.now crls.now (S.accepts check.now))) }
 {
     let [leaf, pool @ ..] = certificates else {
@@ -81,7 +81,7 @@ pub(crate) fn judge<'a, S: SignatureCheck>(
     inputs: &Inputs<'a>,
     crls: &Crls<'_>,
     check: &S,
-) -> Result<Judged<'a>, AllocError>
+) -> Result<JudgedChain<'a>, AllocError>
     requires some { 1 ≤ length certificates.now }
     requires few { length certificates.now ≤ 33 }
     requires anchored { 1 ≤ length anchors.now }
@@ -91,19 +91,19 @@ pub(crate) fn judge<'a, S: SignatureCheck>(
 {
     let answer = found_among(alloc, certificates, anchors, inputs, crls, check)?;
     match answer {
-        Answer::Found {
+        SearchAnswer::Found {
             anchor,
             chain,
             policies,
         } => {
             let found = certificates_at(alloc, certificates, &chain)?;
-            Ok(Judged {
+            Ok(JudgedChain {
                 place: anchor,
                 chain: found,
                 verdict: Verdict::Valid(policies),
             })
         }
-        Answer::NoPath => explain(alloc, certificates, anchors, inputs, crls, check),
-        Answer::SearchLimit => explain(alloc, certificates, anchors, inputs, crls, check),
+        SearchAnswer::NoPath => explain(alloc, certificates, anchors, inputs, crls, check),
+        SearchAnswer::SearchLimit => explain(alloc, certificates, anchors, inputs, crls, check),
     }
 }

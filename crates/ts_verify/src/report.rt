@@ -1,19 +1,21 @@
 //! What is reported of a chain of certificates.
 
 use ts_cert::Cert;
-use ts_path::{Anchor, Reason};
+use ts_der::OidRef;
+use ts_path::Anchor;
+use ts_reason::Reason;
 
 /// What is found of a chain.
 #[derive(Drop)]
 pub enum Finding<'a> {
     /// The chain is valid, and its leaf is for the host that is asked, if one is. The policies that
-    /// are accepted, each as the content octets of its object identifier, ascending by these.
-    Valid(Vec<&'a [u8]>),
+    /// are accepted, ascending by the content octets of their object identifiers.
+    Valid(Vec<OidRef<'a>>),
     /// A certificate of the chain does not meet a condition.
     Invalid {
         /// The place in the chain, counted from 1, the anchor's side.
         position: u8,
-        reason: Reason<'a>,
+        reason: Reason<OidRef<'a>>,
     },
     /// The chain is valid, and its leaf is not for the host that is asked (RFC 9525 6).
     OtherHost,

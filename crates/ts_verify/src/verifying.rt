@@ -6,7 +6,7 @@ ghost use Rattle.ts_cert.specs.CertView.{cert_in};
 ghost use Rattle.ts_path.specs.View.{anchor_in, asked_under};
 ghost use Rattle.ts_verify.specs.Report.{IsForAsked, IsReport, IsReportOn, Says, search_with};
 
-use crate::judging::{Judged, judge};
+use crate::judging::{JudgedChain, judge};
 use crate::leaf::leaf_first;
 use crate::report::{Finding, Report};
 use std::alloc::{AllocError, Global};
@@ -60,7 +60,7 @@ fn report_on<'a, S: SignatureCheck>(
         (search_with (map anchor_in anchors.now) (asked_under inputs.now crls.now
         (S.accepts check.now)) (map cert_in certificates.now)) host.entry r) }
 {
-    let Judged {
+    let JudgedChain {
         place,
         chain,
         verdict,

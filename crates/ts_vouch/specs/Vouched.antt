@@ -10,7 +10,7 @@ use Rattle.ts_ext.specs.NamedBits.{bit}
 use Rattle.ts_ext.specs.Reading.{key_usage_of}
 use Rattle.ts_field.specs.declared.time.Time.{Time}
 use Rattle.ts_cert.specs.Certificate.{Certificate}
-use Rattle.ts_cert.specs.Stated.{stated}
+use Rattle.ts_cert.specs.Stated.{stated_value}
 use Rattle.ts_crl.specs.List.{CertificateList}
 use Rattle.ts_sig.specs.Key.{Key}
 use Rattle.ts_vouch.specs.declared.doubt.Doubt.{Doubt}
@@ -23,14 +23,14 @@ Check = List ℕ → Key → List ℕ → List ℕ → Bool
 -- ---- who signed it
 
 -- a keyUsage, where the certificate states one, has cRLSign, which is bit 6 (6.3.3 (f))
-abbrev pub may_sign : Option (List Bool) → Bool
-may_sign None = true
-may_sign (Some bits) = bit 6 bits
+abbrev pub may_sign_crl : Option (List Bool) → Bool
+may_sign_crl None = true
+may_sign_crl (Some bits) = bit 6 bits
 
 -- the certificate's subject is the issuer of the CRL, and its key may sign CRLs (6.3.3 (f))
 unfoldable pub is_issuer : CertificateList → Certificate → Bool
 is_issuer l c = is_same_name l.tbsCertList.issuer c.tbsCertificate.subject
-    && may_sign (stated KeyUsage key_usage_of c.tbsCertificate)
+    && may_sign_crl (stated_value KeyUsage key_usage_of c.tbsCertificate)
 
 -- parameters that are not NULL (X.690 8.8)
 abbrev pub not_null : Option (List ℕ) → Option (List ℕ)

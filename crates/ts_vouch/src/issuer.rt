@@ -8,7 +8,7 @@ ghost use Rattle.ts_name.specs.Sameness.{is_same_name};
 ghost use Rattle.ts_sig.specs.Key.{key_of};
 ghost use Rattle.ts_cert.specs.CertView.{cert_in};
 ghost use Rattle.ts_crl.specs.ListView.{crl_in};
-ghost use Rattle.ts_vouch.specs.Vouched.{has_signed, is_issuer, key_in, may_sign, not_null};
+ghost use Rattle.ts_vouch.specs.Vouched.{has_signed, is_issuer, key_in, may_sign_crl, not_null};
 
 use ts_cert::Cert;
 use ts_crl::Crl;
@@ -50,7 +50,7 @@ fn is_same(name: Name<'_>, other: Name<'_>) -> bool
 
 /// Whether a key of this usage may sign CRLs, as far as its certificate says.
 fn may_sign(usage: Option<KeyUsage<'_>>) -> bool
-    ensures { result ≡ may_sign (option_map (λ u. bits_in u.bits) usage.entry) }
+    ensures { result ≡ may_sign_crl (option_map (λ u. bits_in u.bits) usage.entry) }
 {
     match usage {
         Some(usage) => usage.crl_sign(),

@@ -4,7 +4,7 @@ use Rattle.std.specs.Prelude.{nat_lt}
 use Rattle.std.specs.List.{AllByRecursion}
 use Rattle.std.specs.Int.{w32, w64, to_be_bytes}
 use Rattle.ts_codec.specs.Parts.{blob32}
-use Rattle.ts_codec.specs.Ranges.{is_node, is_position, is_ballot}
+use Rattle.ts_codec.specs.Ranges.{is_node_number, is_position, is_ballot}
 use Rattle.ts_codec.specs.Reading.{◌>>=◌, ◌and◌, ◌into◌, bare, lookup, number_at, node_at, position_at, ballot_at, within_blob_at, code_at}
 use Rattle.ts_codec.proofs.Laws.{Part}
 use Rattle.ts_codec.proofs.Numbers.{octets_part}
@@ -14,7 +14,7 @@ use Rattle.ts_codec.proofs.Values.{node_part, position_part, prefix_part, ballot
 use Rattle.ts_synod.specs.declared.message.Body.{Body}
 use Rattle.ts_synod.specs.declared.message.Body.TheVariants.{Prepare, Promise, Busy, Accept, Accepted, Ask, Give}
 use Rattle.ts_synod.specs.declared.message.Vote.{Vote}
-use Rattle.ts_store.specs.Commands.{encoding as command_octets, Fits as CommandFits}
+use Rattle.ts_store.specs.Commands.{command_encoding as command_octets, CommandFits}
 use Rattle.ts_store.specs.declared.command.Command.{Command}
 use Rattle.ts_store.specs.declared.outcome.Outcome.{Outcome as Came}
 use Rattle.ts_store.specs.declared.outcome.Outcome.TheVariants.{Applied, Repeated, Refused}
@@ -22,27 +22,36 @@ use Rattle.ts_store.specs.declared.outcome.Refusal.{Refusal}
 use Rattle.ts_store.specs.declared.outcome.Refusal.TheVariants.{AnchorThere, NoAnchor, Malformed, OlderCrl, CriticalCrlExtension, StoreFull, DeltaCrl, NoCrl, RelativeName, Indirect}
 use Rattle.ts_store.proofs.OneEncoding.{command_part}
 use Rattle.ts_store.proofs.Encoded.{encoding_short}
-use Rattle.ts_question.specs.Question.{encoding as question_octets, Fits as QuestionFits}
+use Rattle.ts_question.specs.Question.{question_encoding as question_octets, QuestionFits}
 use Rattle.ts_question.specs.QuestionReading.{question_at}
 use Rattle.ts_question.proofs.Fields.{question_part}
 use Rattle.ts_question.proofs.Replies.{answer_part}
 use Rattle.ts_wire.proofs.Lengths.{question_short}
 use Rattle.ts_wire.specs.Outcomes.{refusal_code, outcome_encoding, OutcomeFits, node_fault_code, frame_fault_code}
-use Rattle.ts_wire.specs.Frames.{kind_of, taken_encoding, fields, TakenFits, BodyFits, FieldsFit}
-use Rattle.ts_wire.specs.FrameReading.{route_of, route_at, blob_command_at, vote_of, vote_at, taken_at, peer, prepare_at, promise_at, busy_at, accept_at, accepted_at, ask_at, give_at, started_at, refusals, refused_at, outcome_at, settled_at, node_faults, frame_faults, identity_at, readers, fields_at}
+use Rattle.ts_wire.specs.Frames.{frame_kind, taken_encoding, frame_fields, TakenFits, BodyFits, FrameFieldsFit}
+use Rattle.ts_wire.specs.inside.FrameReading.{route_of, route_at, blob_command_at, vote_of, vote_at}
+use Rattle.ts_wire.specs.inside.FrameReading.{taken_at, peer, prepare_at, promise_at, busy_at}
+use Rattle.ts_wire.specs.inside.FrameReading.{accept_at, accepted_at, ask_at, give_at, started_at}
+use Rattle.ts_wire.specs.inside.FrameReading.{refusals, refused_at, outcome_at, settled_at}
+use Rattle.ts_wire.specs.inside.FrameReading.{node_faults, frame_faults, identity_at, readers}
+use Rattle.ts_wire.specs.inside.FrameReading.{fields_at}
 use Rattle.ts_wire.specs.declared.route.Route.{Route}
-use Rattle.ts_wire.specs.declared.fault.NodeFault.{NodeFault as NodeFaultOf}
-use Rattle.ts_wire.specs.declared.fault.NodeFault.TheVariants.{Memory, DiskFailed, Broken, RoundsExhausted, PositionsExhausted, GenerationsExhausted}
+use Rattle.ts_synod.specs.declared.fault.NodeFault.{NodeFault as NodeFaultOf}
+use Rattle.ts_synod.specs.declared.fault.NodeFault.TheVariants.{Memory, DiskFailed, Broken, RoundsExhausted, PositionsExhausted, GenerationsExhausted}
 use Rattle.ts_wire.specs.declared.fault.FrameFault.{FrameFault as FrameFaultOf}
 use Rattle.ts_wire.specs.declared.fault.FrameFault.TheVariants.{Length, Version, Kind, Field, Trailing}
 use Rattle.ts_wire.specs.declared.frame.Frame.{Frame}
-use Rattle.ts_wire.specs.declared.frame.Frame.TheVariants.{Peer, Submit, Question, Take, Outcome, CatchUp, Status, Compact, Done, Started, Settled, Answer, Unknown, NodeFault, FrameFault, Prefix, Identify, Identity, Report, Reported}
+use Rattle.ts_wire.specs.declared.frame.Frame.TheVariants.{Peer, Submit, Question, Take, Outcome}
+use Rattle.ts_wire.specs.declared.frame.Frame.TheVariants.{CatchUp, Status, Compact, Done, Started}
+use Rattle.ts_wire.specs.declared.frame.Frame.TheVariants.{Settled, Answer, Unknown, NodeFault}
+use Rattle.ts_wire.specs.declared.frame.Frame.TheVariants.{FrameFault, Prefix, Identify, Identity}
+use Rattle.ts_wire.specs.declared.frame.Frame.TheVariants.{Report, Reported}
 
 -- ---- parts of frames
 
 pub record Routed (r : Route) : Type 0 where
-  pub from : is_node r.from ≡ true
-  pub to : is_node r.to ≡ true
+  pub from : is_node_number r.from ≡ true
+  pub to : is_node_number r.to ≡ true
   pub position : is_position r.position ≡ true
 
 abbrev route_octets : Route → List ℕ
@@ -93,7 +102,9 @@ taken_part = recoded (kind_part {kind_of = flag_of} {encode = vote_octets} {Fit 
   again = again;
 })) taken_encoding same
   where
-    again : (t : Option (Vote Command)) (rest : List ℕ) → TakenFits t → (lookup (flag_of t) ((0, λ o. Some (None, o)) ∷ (1, vote_at into Some) ∷ []) >>= λ read. read (vote_octets t ++ rest)) ≡ Some (t, rest)
+    again : (t : Option (Vote Command)) (rest : List ℕ) → TakenFits t
+        → (lookup (flag_of t) ((0, λ o. Some (None, o)) ∷ (1, vote_at into Some) ∷ []) >>= λ read.
+        read (vote_octets t ++ rest)) ≡ Some (t, rest)
     again None rest fit = refl
     again (Some v) rest fit = parts_again vote_part Some v rest fit
 
@@ -158,7 +169,10 @@ outcome_part = recoded (kind_part {kind_of = came_as} {encode = came_octets} {Fi
   again = again;
 })) outcome_encoding same
   where
-    again : (x : Came) (rest : List ℕ) → OutcomeFits x → (lookup (came_as x) ((0, λ o. Some (Applied, o)) ∷ (1, position_at into Repeated) ∷ (2, code_at refusals into Refused) ∷ []) >>= λ read. read (came_octets x ++ rest)) ≡ Some (x, rest)
+    again : (x : Came) (rest : List ℕ) → OutcomeFits x
+        → (lookup (came_as x) ((0, λ o. Some (Applied, o)) ∷ (1, position_at into Repeated)
+        ∷ (2, code_at refusals into Refused) ∷ []) >>= λ read. read (came_octets x ++ rest)) ≡ Some
+        (x, rest)
     again Applied rest fit = refl
     again (Repeated p) rest fit = parts_again position_part Repeated p rest fit
     again (Refused r) rest fit = parts_again refusal_part Refused r rest tt
@@ -176,28 +190,43 @@ prepare_part = and_part route_part ballot_part
 promise_part : Part (λ x. route_octets x.0 ++ (to_be_bytes w64 x.1.0 ++ taken_encoding x.1.1)) (λ x. Routed x.0 × ((is_ballot x.1.0 ≡ true) × TakenFits x.1.1)) (route_at and ballot_at and taken_at)
 promise_part = and_part route_part (and_part ballot_part taken_part)
 
-busy_part : Part (λ x. route_octets x.0 ++ (to_be_bytes w64 x.1.0 ++ to_be_bytes w64 x.1.1)) (λ x. Routed x.0 × ((is_ballot x.1.0 ≡ true) × (is_ballot x.1.1 ≡ true))) (route_at and ballot_at and ballot_at)
+busy_part : Part (λ x. route_octets x.0 ++ (to_be_bytes w64 x.1.0 ++ to_be_bytes w64 x.1.1))
+    (λ x. Routed x.0 × ((is_ballot x.1.0 ≡ true) × (is_ballot x.1.1 ≡ true)))
+    (route_at and ballot_at and ballot_at)
 busy_part = and_part route_part (and_part ballot_part ballot_part)
 
-accept_part : Part (λ x. route_octets x.0 ++ (to_be_bytes w64 x.1.0 ++ blob32 (command_octets x.1.1))) (λ x. Routed x.0 × ((is_ballot x.1.0 ≡ true) × CommandFits x.1.1)) (route_at and ballot_at and blob_command_at)
+accept_part : Part (λ x. route_octets x.0
+    ++ (to_be_bytes w64 x.1.0 ++ blob32 (command_octets x.1.1)))
+    (λ x. Routed x.0 × ((is_ballot x.1.0 ≡ true) × CommandFits x.1.1))
+    (route_at and ballot_at and blob_command_at)
 accept_part = and_part route_part (and_part ballot_part blob_command_part)
 
 give_part : Part (λ x. route_octets x.0 ++ blob32 (command_octets x.1)) (λ x. Routed x.0 × CommandFits x.1) (route_at and blob_command_at)
 give_part = and_part route_part blob_command_part
 
-routed : (from to position : ℕ) → is_node from ≡ true → is_node to ≡ true → is_position position ≡ true → Routed (record { from = from; to = to; position = position })
+routed : (from to position : ℕ) → is_node_number from ≡ true → is_node_number to ≡ true → is_position position ≡ true → Routed (record { from = from; to = to; position = position })
 routed from to position f t p = record { from = f; to = t; position = p }
 
 abbrev IsRead : Frame → List ℕ → Type 0
-IsRead f rest = (lookup (kind_of f) readers >>= λ read. read (fields f ++ rest)) ≡ Some (f, rest)
+IsRead f rest = (lookup (frame_kind f) readers >>= λ read. read (frame_fields f ++ rest)) ≡ Some (f, rest)
 
-peer_again : (from to : ℕ) (body : Body Command) (rest : List ℕ) → is_node from ≡ true → is_node to ≡ true → BodyFits body → IsRead (Peer (record { from = from; to = to; body = body })) rest
+peer_again : (from to : ℕ) (body : Body Command) (rest : List ℕ) → is_node_number from ≡ true
+    → is_node_number to ≡ true → BodyFits body
+    → IsRead (Peer (record { from = from; to = to; body = body })) rest
 unfolding prepare_at promise_at busy_at accept_at accepted_at ask_at give_at
 peer_again from to (Prepare p b) rest f t fit = parts_again prepare_part (λ x. peer x.0 (Prepare x.0.position x.1)) (route_of (from, (to, p)), b) rest (routed from to p f t fit.0, fit.1)
-peer_again from to (Promise p b x) rest f t fit = parts_again promise_part (λ x. peer x.0 (Promise x.0.position x.1.0 x.1.1)) (route_of (from, (to, p)), (b, x)) rest (routed from to p f t fit.0, (fit.1, fit.2))
-peer_again from to (Busy p b q) rest f t fit = parts_again busy_part (λ x. peer x.0 (Busy x.0.position x.1.0 x.1.1)) (route_of (from, (to, p)), (b, q)) rest (routed from to p f t fit.0, (fit.1, fit.2))
-peer_again from to (Accept p b c) rest f t fit = parts_again accept_part (λ x. peer x.0 (Accept x.0.position x.1.0 x.1.1)) (route_of (from, (to, p)), (b, c)) rest (routed from to p f t fit.0, (fit.1, fit.2))
-peer_again from to (Accepted p b c) rest f t fit = parts_again accept_part (λ x. peer x.0 (Accepted x.0.position x.1.0 x.1.1)) (route_of (from, (to, p)), (b, c)) rest (routed from to p f t fit.0, (fit.1, fit.2))
+peer_again from to (Promise p b x) rest f t fit =
+    parts_again promise_part (λ x. peer x.0 (Promise x.0.position x.1.0 x.1.1))
+    (route_of (from, (to, p)), (b, x)) rest (routed from to p f t fit.0, (fit.1, fit.2))
+peer_again from to (Busy p b q) rest f t fit =
+    parts_again busy_part (λ x. peer x.0 (Busy x.0.position x.1.0 x.1.1))
+    (route_of (from, (to, p)), (b, q)) rest (routed from to p f t fit.0, (fit.1, fit.2))
+peer_again from to (Accept p b c) rest f t fit =
+    parts_again accept_part (λ x. peer x.0 (Accept x.0.position x.1.0 x.1.1))
+    (route_of (from, (to, p)), (b, c)) rest (routed from to p f t fit.0, (fit.1, fit.2))
+peer_again from to (Accepted p b c) rest f t fit =
+    parts_again accept_part (λ x. peer x.0 (Accepted x.0.position x.1.0 x.1.1))
+    (route_of (from, (to, p)), (b, c)) rest (routed from to p f t fit.0, (fit.1, fit.2))
 peer_again from to (Ask p) rest f t fit = parts_again route_part (λ x. peer x (Ask x.position)) (route_of (from, (to, p))) rest (routed from to p f t fit)
 peer_again from to (Give p c) rest f t fit = parts_again give_part (λ x. peer x.0 (Give x.0.position x.1)) (route_of (from, (to, p)), c) rest (routed from to p f t fit.0, fit.1)
 
@@ -209,10 +238,13 @@ started_part = and_part position_part ballot_part
 settled_part : Part (λ x. to_be_bytes w32 x.0 ++ outcome_encoding x.1) (λ x. (is_position x.0 ≡ true) × OutcomeFits x.1) (position_at and outcome_at)
 settled_part = and_part position_part outcome_part
 
-identity_part : Part (λ x. x.0 ∷ x.1.0 ∷ to_be_bytes w32 x.1.1) (λ x. (is_node x.0 ≡ true) × ((is_node x.1.0 ≡ true) × (nat_lt x.1.1 4294967296 ≡ true))) (node_at and node_at and number_at w32)
+identity_part : Part (λ x. x.0 ∷ x.1.0 ∷ to_be_bytes w32 x.1.1)
+    (λ x. (is_node_number x.0 ≡ true)
+    × ((is_node_number x.1.0 ≡ true) × (nat_lt x.1.1 4294967296 ≡ true)))
+    (node_at and node_at and number_at w32)
 identity_part = and_part node_part (and_part node_part word_part)
 
-again : (f : Frame) (rest : List ℕ) → FieldsFit f → IsRead f rest
+again : (f : Frame) (rest : List ℕ) → FrameFieldsFit f → IsRead f rest
 unfolding started_at settled_at identity_at
 again (Peer m) rest fit = peer_again m.from m.to m.body rest fit.0 fit.1 fit.2
 again (Submit c) rest fit = parts_again blob_command_part Submit c rest fit
@@ -235,10 +267,10 @@ again (Prefix p) rest fit = parts_again prefix_part Prefix p rest fit
 again (Identity n m g) rest fit = parts_again identity_part (λ x. Identity x.0 x.1.0 x.1.1) (n, (m, g)) rest (fit.0, (fit.1, fit.2))
 again (Reported t) rest fit = parts_again blob32_part Reported t rest fit
 
-empty : (f : Frame) (n : ℕ) → fields f ≡ [] → FieldsFit f → kind_of f ≡ n → Case kind_of fields FieldsFit n (bare f)
+empty : (f : Frame) (n : ℕ) → frame_fields f ≡ [] → FrameFieldsFit f → frame_kind f ≡ n → Case frame_kind frame_fields FrameFieldsFit n (bare f)
 empty f n none fit is = bare_case f n none fit is
 
-cases : AllByRecursion (λ row. Case kind_of fields FieldsFit row.0 row.1) readers
+cases : AllByRecursion (λ row. Case frame_kind frame_fields FrameFieldsFit row.0 row.1) readers
 unfolding prepare_at promise_at busy_at accept_at accepted_at ask_at give_at started_at settled_at identity_at
 cases =
     case prepare_part (λ x. peer x.0 (Prepare x.0.position x.1)) 1 (λ x fit. ((fit.0.from, fit.0.to, (fit.0.position, fit.1)), refl, refl))
@@ -270,6 +302,6 @@ cases =
     also tt
 
 -- the fields of one kind
-pub frame_part : (kind : ℕ) → Part fields (λ f. FieldsFit f × (kind_of f ≡ kind)) (fields_at kind)
+pub frame_part : (kind : ℕ) → Part frame_fields (λ f. FrameFieldsFit f × (frame_kind f ≡ kind)) (fields_at kind)
 unfolding fields_at
 frame_part kind = fields_part (record { cases = cases; again = again }) kind

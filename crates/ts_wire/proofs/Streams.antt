@@ -1,5 +1,8 @@
 -- A stream of octets is read in one way.
-use Rattle.std.proofs.Common.{◌≡◌, ◌⊎◌, inl, inr, ℕ, ◌+◌, ◌^◌, ◌<◌, ◌||◌, Bool, true, false, cond, eqb, ltb, List, [], ◌∷◌, ◌++◌, length, get_or, take, drop, Option, Some, None, Result, Ok, Err, refl, sym, ap, subst, ◌∙◌, append_assoc, arith, length-append}
+use Rattle.std.proofs.Common.{◌≡◌, ◌⊎◌, inl, inr, ℕ, ◌+◌, ◌^◌, ◌<◌, ◌||◌, Bool, true, false, cond}
+use Rattle.std.proofs.Common.{eqb, ltb, List, [], ◌∷◌, ◌++◌, length, get_or, take, drop, Option}
+use Rattle.std.proofs.Common.{Some, None, Result, Ok, Err, refl, sym, ap, subst, ◌∙◌, append_assoc}
+use Rattle.std.proofs.Common.{arith, length-append}
 use Rattle.std.specs.List.{flat_map, list_all, AllByRecursion}
 use Rattle.std.specs.Int.{w32, to_be_bytes, from_be_bytes}
 use Rattle.std.proofs.lemmas.Bool.{eqb-true, lt-ltb, le-ltb}
@@ -10,9 +13,9 @@ use Rattle.std.proofs.lemmas.Nat.{from_be_bytes-to_be_bytes_4}
 use Rattle.ts_codec.specs.Reading.{Reader, of_kind}
 use Rattle.ts_codec.proofs.Rows.{look}
 use Rattle.ts_codec.proofs.Truths.{each_true}
-use Rattle.ts_wire.specs.Frames.{kind_of, is_kind, fields, encoding, Fits, FieldsFit}
-use Rattle.ts_wire.specs.FrameReading.{readers, fields_at, ended, frame_in}
-use Rattle.ts_wire.specs.Stream.{IsLength, IsPartial, Framed, IsFault, Ends, Splits}
+use Rattle.ts_wire.specs.Frames.{frame_kind, is_kind, frame_fields, frame_encoding, FrameFits, FrameFieldsFit}
+use Rattle.ts_wire.specs.inside.FrameReading.{readers, fields_at, whole_frame, frame_in}
+use Rattle.ts_wire.specs.Stream.{IsLength, IsPartial, IsFramed, IsFault, Ends, Splits}
 use Rattle.ts_wire.specs.declared.fault.FrameFault.{FrameFault}
 use Rattle.ts_wire.specs.declared.fault.FrameFault.TheVariants.{Length, Version, Kind, Field, Trailing}
 use Rattle.ts_wire.specs.declared.frame.Frame.{Frame}
@@ -64,22 +67,26 @@ whole_at octets body after is length_is =
 kinds_are : list_all (λ row. is_kind row.0) readers ≡ true
 kinds_are = refl
 
-kind_is : (f : Frame) → FieldsFit f → is_kind (kind_of f) ≡ true
+kind_is : (f : Frame) → FrameFieldsFit f → is_kind (frame_kind f) ≡ true
 unfolding fields_at of_kind
 kind_is f fit =
-    look (kind_of f) readers (λ n read. is_kind n ≡ true) (λ read. read (fields f ++ [])) (f, []) (each_true (λ (row : ℕ × Reader Frame). is_kind row.0) (λ row. is_kind row.0 ≡ true) (λ row k. k) readers kinds_are)
-    ((frame_part (kind_of f)).again f [] (fit, refl)) (λ read k e. k)
+    look (frame_kind f) readers (λ n read. is_kind n ≡ true) (λ read. read (frame_fields f ++ []))
+    (f, []) (each_true (λ (row : ℕ × Reader Frame). is_kind row.0) (λ row. is_kind row.0 ≡ true)
+    (λ row k. k) readers kinds_are)
+    ((frame_part (frame_kind f)).again f [] (fit, refl)) (λ read k e. k)
 
-frame_again : (f : Frame) → Fits f → frame_in (2 ∷ kind_of f ∷ fields f) ≡ Ok f
+frame_again : (f : Frame) → FrameFits f → frame_in (2 ∷ frame_kind f ∷ frame_fields f) ≡ Ok f
 unfolding frame_in
 frame_again f fit =
-    let e : fields_at (kind_of f) (fields f) ≡ Some (f, []) = ap (fields_at (kind_of f)) (sym (append-nil (fields f))) ∙ (frame_part (kind_of f)).again f [] (fit.ranges, refl) in
-    ap (λ b. cond b (ended (fields_at (kind_of f) (fields f))) (Err Kind)) (kind_is f fit.ranges) ∙ ap ended e
+    let e : fields_at (frame_kind f) (frame_fields f) ≡ Some (f, []) = ap (fields_at (frame_kind f)) (sym (append-nil (frame_fields f))) ∙ (frame_part (frame_kind f)).again f [] (fit.ranges, refl) in
+    ap (λ b. cond b (whole_frame (fields_at (frame_kind f) (frame_fields f))) (Err Kind)) (kind_is f fit.ranges) ∙ ap whole_frame e
 
-pub next_frame : (f : Frame) (after : List ℕ) → Fits f → next (encoding f ++ after) ≡ frame f after
+pub next_frame : (f : Frame) (after : List ℕ) → FrameFits f → next (frame_encoding f ++ after) ≡ frame f after
 next_frame f after fit =
-    let n : length (2 ∷ kind_of f ∷ fields f) ≡ 2 + length (fields f) = omega arith in
-    whole_at (encoding f ++ after) (2 ∷ kind_of f ∷ fields f) after (ap (λ k. to_be_bytes w32 k ++ ((2 ∷ kind_of f ∷ fields f) ++ after)) (sym n)) (omega (arith, n), omega (arith, n, fit.short))
+    let n : length (2 ∷ frame_kind f ∷ frame_fields f) ≡ 2 + length (frame_fields f) = omega arith in
+    whole_at (frame_encoding f ++ after) (2 ∷ frame_kind f ∷ frame_fields f) after
+    (ap (λ k. to_be_bytes w32 k ++ ((2 ∷ frame_kind f ∷ frame_fields f) ++ after)) (sym n))
+    (omega (arith, n), omega (arith, n, fit.short))
     ∙ ap (judged after) (frame_again f fit)
 
 -- ---- less than a frame
@@ -98,7 +105,7 @@ next_partial octets (inr x) =
 
 -- ---- a fault
 
-framed_at : (octets : List ℕ) (version kind : ℕ) (rest : List ℕ) (x : FrameFault) → (f : Framed octets version kind rest) → frame_in (version ∷ kind ∷ rest) ≡ Err x → next octets ≡ wrong x
+framed_at : (octets : List ℕ) (version kind : ℕ) (rest : List ℕ) (x : FrameFault) → (f : IsFramed octets version kind rest) → frame_in (version ∷ kind ∷ rest) ≡ Err x → next octets ≡ wrong x
 framed_at octets version kind rest x f e =
     let n : length (version ∷ kind ∷ rest) ≡ 2 + length rest = omega arith in
     whole_at octets (version ∷ kind ∷ rest) f.after (f.is ∙ ap (λ k. to_be_bytes w32 k ++ (version ∷ kind ∷ (rest ++ f.after))) (sym n)) (omega (arith, n), omega (arith, n, f.short))
@@ -119,21 +126,23 @@ next_fault Length octets f = inl (ap next f.4 ∙ next_at f.0 f.1 f.2 ∙ wrong_
 next_fault Version octets f =
     inl (framed_at octets f.0 f.1 f.2 Version f.3 (by (eqb f.0 2) refl))
   where
-    by : (b : Bool) → eqb f.0 2 ≡ b → cond b (cond (is_kind f.1) (ended (fields_at f.1 f.2)) (Err Kind)) (Err Version) ≡ Err Version
+    by : (b : Bool) → eqb f.0 2 ≡ b → cond b (cond (is_kind f.1) (whole_frame (fields_at f.1 f.2)) (Err Kind)) (Err Version) ≡ Err Version
     by true e = absurd (f.4 (eqb-true _ _ e))
     by false e = refl
-next_fault Kind octets f = inl (framed_at octets 2 f.0 f.1 Kind f.2 (ap (λ b. cond b (ended (fields_at f.0 f.1)) (Err Kind)) f.3))
+next_fault Kind octets f = inl (framed_at octets 2 f.0 f.1 Kind f.2 (ap (λ b. cond b (whole_frame (fields_at f.0 f.1)) (Err Kind)) f.3))
 next_fault Field octets f = inr refl
 next_fault Trailing octets f =
     let g = f.4 in
     let e : fields_at f.0 f.1 ≡ Some (g.0, g.1 ∷ g.2) = ap (λ l. fields_at f.0 l) g.5 ∙ (frame_part f.0).again g.0 (g.1 ∷ g.2) (g.3, g.4) in
-    inl (framed_at octets 2 f.0 f.1 Trailing f.2 (ap (λ b. cond b (ended (fields_at f.0 f.1)) (Err Kind)) f.3 ∙ ap ended e ∙ ap (λ b. cond b (Ok g.0) (Err Trailing)) (eqb-suc-zero (length g.2))))
+    inl (framed_at octets 2 f.0 f.1 Trailing f.2
+    (ap (λ b. cond b (whole_frame (fields_at f.0 f.1)) (Err Kind)) f.3 ∙ ap whole_frame e
+    ∙ ap (λ b. cond b (Ok g.0) (Err Trailing)) (eqb-suc-zero (length g.2))))
 
 -- where Field stands, fields are looked into
 pub record Looked (octets : List ℕ) : Type 0 where
   pub fields_read : Option (Frame × List ℕ)
   pub after : List ℕ
-  pub is : next octets ≡ judged after (ended fields_read)
+  pub is : next octets ≡ judged after (whole_frame fields_read)
 
 looked : (octets : List ℕ) → IsFault Field octets → Looked octets
 unfolding frame_in
@@ -143,7 +152,7 @@ looked octets f =
       fields_read = fields_at f.0 f.1;
       after = f.2.after;
       is = whole_at octets (2 ∷ f.0 ∷ f.1) f.2.after (f.2.is ∙ ap (λ k. to_be_bytes w32 k ++ (2 ∷ f.0 ∷ (f.1 ++ f.2.after))) (sym n)) (omega (arith, n), omega (arith, n, f.2.short))
-          ∙ ap (λ b. judged f.2.after (cond b (ended (fields_at f.0 f.1)) (Err Kind))) f.3;
+          ∙ ap (λ b. judged f.2.after (cond b (whole_frame (fields_at f.0 f.1)) (Err Kind))) f.3;
     }
 
 -- octets begin with one body after its length
@@ -152,7 +161,9 @@ pub record SameBody (version other kind another : ℕ) (rest more : List ℕ) : 
   pub kind_is : kind ≡ another
   pub rest_is : rest ≡ more
 
-same_body : (octets : List ℕ) (version other kind another : ℕ) (rest more : List ℕ) → Framed octets version kind rest → Framed octets other another more → SameBody version other kind another rest more
+same_body : (octets : List ℕ) (version other kind another : ℕ) (rest more : List ℕ)
+    → IsFramed octets version kind rest → IsFramed octets other another more
+    → SameBody version other kind another rest more
 same_body octets version other kind another rest more f g =
     let e = sym f.is ∙ g.is in
     let m = 2 + length rest in
@@ -169,15 +180,15 @@ same_body octets version other kind another rest more f g =
       rest_is = sym (take_at rest f.after (length rest) refl) ∙ ap (take (length rest)) t ∙ take_at more g.after (length rest) same;
     }
 
-frame_framed : (f : Frame) (after : List ℕ) → Fits f → Framed (encoding f ++ after) 2 (kind_of f) (fields f)
+frame_framed : (f : Frame) (after : List ℕ) → FrameFits f → IsFramed (frame_encoding f ++ after) 2 (frame_kind f) (frame_fields f)
 frame_framed f after fit = record { after = after; short = fit.short; is = refl }
 
 -- no frame is where Field does
-not_cut : (f : Frame) (after octets : List ℕ) → Fits f → octets ≡ encoding f ++ after → IsFault Field octets → ⊥
+not_cut : (f : Frame) (after octets : List ℕ) → FrameFits f → octets ≡ frame_encoding f ++ after → IsFault Field octets → ⊥
 not_cut f after octets fit is x =
-    let here : Framed octets 2 (kind_of f) (fields f) = subst (λ l. Framed l 2 (kind_of f) (fields f)) (sym is) (frame_framed f after fit) in
-    let b = same_body octets 2 2 (kind_of f) x.0 (fields f) x.1 here x.2 in
-    x.4 f [] fit.ranges b.kind_is (sym b.rest_is ∙ sym (append-nil (fields f)))
+    let here : IsFramed octets 2 (frame_kind f) (frame_fields f) = subst (λ l. IsFramed l 2 (frame_kind f) (frame_fields f)) (sym is) (frame_framed f after fit) in
+    let b = same_body octets 2 2 (frame_kind f) x.0 (frame_fields f) x.1 here x.2 in
+    x.4 f [] fit.ranges b.kind_is (sym b.rest_is ∙ sym (append-nil (frame_fields f)))
 
 -- nor do octets after a frame's fields
 not_trailing : (octets : List ℕ) → IsFault Field octets → IsFault Trailing octets → ⊥
@@ -197,10 +208,10 @@ rest_or d (frame f rest) = rest
 rest_or d partial = d
 rest_or d (wrong x) = d
 
-pub same_frame : (f g : Frame) (a b : List ℕ) → Fits f → Fits g → encoding f ++ a ≡ encoding g ++ b → f ≡ g
+pub same_frame : (f g : Frame) (a b : List ℕ) → FrameFits f → FrameFits g → frame_encoding f ++ a ≡ frame_encoding g ++ b → f ≡ g
 same_frame f g a b p q e = ap (frame_or f) (sym (next_frame f a p) ∙ ap next e ∙ next_frame g b q)
 
-pub same_rest : (f g : Frame) (a b : List ℕ) → Fits f → Fits g → encoding f ++ a ≡ encoding g ++ b → a ≡ b
+pub same_rest : (f g : Frame) (a b : List ℕ) → FrameFits f → FrameFits g → frame_encoding f ++ a ≡ frame_encoding g ++ b → a ≡ b
 same_rest f g a b p q e = ap (rest_or a) (sym (next_frame f a p) ∙ ap next e ∙ next_frame g b q)
 
 abbrev end_of : Option FrameFault → Next
@@ -212,7 +223,7 @@ no_frame None f a e = absurd (cc e)
 no_frame (Some x) f a e = absurd (cc e)
 
 -- no frame is where a stream ends
-pub frame_or_end : (x : Option FrameFault) (f : Frame) (after octets : List ℕ) → Fits f → octets ≡ encoding f ++ after → Ends x octets → ⊥
+pub frame_or_end : (x : Option FrameFault) (f : Frame) (after octets : List ℕ) → FrameFits f → octets ≡ frame_encoding f ++ after → Ends x octets → ⊥
 frame_or_end None f after octets fit is e = no_frame None f after (sym (next_partial octets e) ∙ ap next is ∙ next_frame f after fit)
 frame_or_end (Some x) f after octets fit is e = by (next_fault x octets e)
   where
@@ -235,7 +246,7 @@ late octets x l n = by l.fields_read (sym l.is ∙ n)
     of_end f true e = absurd (cc e)
     of_end f false e = subst IsLate (wrong_is Trailing x e) trailing
 
-    by : (r : Option (Frame × List ℕ)) → judged l.after (ended r) ≡ wrong x → IsLate x
+    by : (r : Option (Frame × List ℕ)) → judged l.after (whole_frame r) ≡ wrong x → IsLate x
     by None e = subst IsLate (wrong_is Field x e) field
     by (Some g) e = of_end g.0 (eqb (length g.1) 0) e
 
@@ -246,7 +257,7 @@ not_partial octets l n = by l.fields_read (sym l.is ∙ n)
     of_end f true e = absurd (cc e)
     of_end f false e = absurd (cc e)
 
-    by : (r : Option (Frame × List ℕ)) → judged l.after (ended r) ≡ partial → ⊥
+    by : (r : Option (Frame × List ℕ)) → judged l.after (whole_frame r) ≡ partial → ⊥
     by None e = absurd (cc e)
     by (Some g) e = of_end g.0 (eqb (length g.1) 0) e
 
@@ -289,22 +300,22 @@ same_end octets None (Some y) e f = absurd (part_or_fault octets y e f)
 same_end octets (Some x) None e f = absurd (part_or_fault octets x f e)
 same_end octets (Some x) (Some y) e f = ap (λ (z : FrameFault). Some z) (same_fault octets x y e f)
 
-pub split : (f : Frame) (fs : List Frame) (rest : List ℕ) → flat_map encoding (f ∷ fs) ++ rest ≡ encoding f ++ (flat_map encoding fs ++ rest)
-split f fs rest = ap (λ l. l ++ rest) (flat_map-cons encoding f fs) ∙ append_assoc (encoding f) (flat_map encoding fs) rest
+pub split : (f : Frame) (fs : List Frame) (rest : List ℕ) → flat_map frame_encoding (f ∷ fs) ++ rest ≡ frame_encoding f ++ (flat_map frame_encoding fs ++ rest)
+split f fs rest = ap (λ l. l ++ rest) (flat_map-cons frame_encoding f fs) ∙ append_assoc (frame_encoding f) (flat_map frame_encoding fs) rest
 
 -- two readings of one list of octets
 pub record SameReading (frames others : List Frame) (fault other : Option FrameFault) : Type 0 where
   pub same_frames : frames ≡ others
   pub same_fault : fault ≡ other
 
-pub same_reading : (frames others : List Frame) (fault other : Option FrameFault) (rest more : List ℕ) → flat_map encoding frames ++ rest ≡ flat_map encoding others ++ more
-    → AllByRecursion Fits frames → AllByRecursion Fits others → Ends fault rest → Ends other more → SameReading frames others fault other
+pub same_reading : (frames others : List Frame) (fault other : Option FrameFault) (rest more : List ℕ) → flat_map frame_encoding frames ++ rest ≡ flat_map frame_encoding others ++ more
+    → AllByRecursion FrameFits frames → AllByRecursion FrameFits others → Ends fault rest → Ends other more → SameReading frames others fault other
 same_reading [] [] fault other rest more e p q x y =
     record { same_frames = refl; same_fault = same_end rest fault other x (subst (Ends other) (sym e) y) }
-same_reading [] (g ∷ gs) fault other rest more e p q x y = absurd (frame_or_end fault g (flat_map encoding gs ++ more) rest q.0 (e ∙ split g gs more) x)
-same_reading (f ∷ fs) [] fault other rest more e p q x y = absurd (frame_or_end other f (flat_map encoding fs ++ rest) more p.0 (sym e ∙ split f fs rest) y)
+same_reading [] (g ∷ gs) fault other rest more e p q x y = absurd (frame_or_end fault g (flat_map frame_encoding gs ++ more) rest q.0 (e ∙ split g gs more) x)
+same_reading (f ∷ fs) [] fault other rest more e p q x y = absurd (frame_or_end other f (flat_map frame_encoding fs ++ rest) more p.0 (sym e ∙ split f fs rest) y)
 same_reading (f ∷ fs) (g ∷ gs) fault other rest more e p q x y =
-    let both : encoding f ++ (flat_map encoding fs ++ rest) ≡ encoding g ++ (flat_map encoding gs ++ more) = sym (split f fs rest) ∙ e ∙ split g gs more in
+    let both : frame_encoding f ++ (flat_map frame_encoding fs ++ rest) ≡ frame_encoding g ++ (flat_map frame_encoding gs ++ more) = sym (split f fs rest) ∙ e ∙ split g gs more in
     let t = same_reading fs gs fault other rest more (same_rest f g _ _ p.0 q.0 both) p.1 q.1 x y in
     let h = same_frame f g _ _ p.0 q.0 both in
     record { same_frames = λ i. h i ∷ t.same_frames i; same_fault = t.same_fault }
@@ -313,7 +324,7 @@ pub one_reading : (stream : List ℕ) (frames others : List Frame) (fault other 
 one_reading stream frames others fault other s t = same_reading frames others fault other s.rest t.rest (sym s.is ∙ t.is) s.each t.each s.ends t.ends
 
 -- a fault stays
-framed_stays : (octets more : List ℕ) (version kind : ℕ) (rest : List ℕ) → Framed octets version kind rest → Framed (octets ++ more) version kind rest
+framed_stays : (octets more : List ℕ) (version kind : ℕ) (rest : List ℕ) → IsFramed octets version kind rest → IsFramed (octets ++ more) version kind rest
 framed_stays octets more version kind rest f = record {
   after = f.after ++ more;
   short = f.short;

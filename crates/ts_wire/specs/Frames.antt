@@ -7,11 +7,11 @@ use Rattle.ts_synod.specs.declared.message.Body.TheVariants.{Prepare, Promise, B
 use Rattle.ts_synod.specs.declared.message.Body.TheVariants.{Accepted, Ask, Give}
 use Rattle.ts_synod.specs.declared.message.Vote.{Vote}
 use Rattle.ts_store.specs.declared.command.Command.{Command}
-use Rattle.ts_store.specs.Commands.{encoding as command_octets, Fits as CommandFits}
+use Rattle.ts_store.specs.Commands.{command_encoding as command_octets, CommandFits}
 use Rattle.ts_codec.specs.Parts.{blob32}
-use Rattle.ts_codec.specs.Ranges.{is_node, is_position, is_ballot}
-use Rattle.ts_question.specs.Question.{encoding as question_octets, Fits as QuestionFits}
-use Rattle.ts_question.specs.Reply.{encoding as answer_octets, Fits as AnswerFits}
+use Rattle.ts_codec.specs.Ranges.{is_node_number, is_position, is_ballot}
+use Rattle.ts_question.specs.Question.{question_encoding as question_octets, QuestionFits}
+use Rattle.ts_question.specs.Reply.{answer_encoding as answer_octets, AnswerFits}
 use Rattle.ts_wire.specs.Outcomes.{outcome_encoding, OutcomeFits}
 use Rattle.ts_wire.specs.Outcomes.{node_fault_code, frame_fault_code}
 use Rattle.ts_wire.specs.declared.frame.Frame.{Frame}
@@ -31,27 +31,27 @@ body_kind (Ask position) = 6
 body_kind (Give position command) = 7
 
 -- the octet that names a frame's kind, 10 to 29 being hexadecimal
-abbrev pub kind_of : Frame → ℕ
-kind_of (Peer message) = body_kind message.body
-kind_of (Submit command) = 16
-kind_of (Question question) = 17
-kind_of Take = 18
-kind_of (Outcome id) = 19
-kind_of CatchUp = 20
-kind_of Status = 21
-kind_of Compact = 22
-kind_of Identify = 23
-kind_of Report = 24
-kind_of (Done count) = 32
-kind_of (Started position ballot) = 33
-kind_of (Settled position outcome) = 34
-kind_of (Answer answer) = 35
-kind_of Unknown = 36
-kind_of (NodeFault fault) = 37
-kind_of (FrameFault fault) = 38
-kind_of (Prefix prefix) = 39
-kind_of (Identity node nodes group) = 40
-kind_of (Reported text) = 41
+abbrev pub frame_kind : Frame → ℕ
+frame_kind (Peer message) = body_kind message.body
+frame_kind (Submit command) = 16
+frame_kind (Question question) = 17
+frame_kind Take = 18
+frame_kind (Outcome id) = 19
+frame_kind CatchUp = 20
+frame_kind Status = 21
+frame_kind Compact = 22
+frame_kind Identify = 23
+frame_kind Report = 24
+frame_kind (Done count) = 32
+frame_kind (Started position ballot) = 33
+frame_kind (Settled position outcome) = 34
+frame_kind (Answer answer) = 35
+frame_kind Unknown = 36
+frame_kind (NodeFault fault) = 37
+frame_kind (FrameFault fault) = 38
+frame_kind (Prefix prefix) = 39
+frame_kind (Identity node nodes group) = 40
+frame_kind (Reported text) = 41
 
 -- 01 to 07, 10 to 18 and 20 to 29, hexadecimal
 abbrev pub is_kind : ℕ → Bool
@@ -77,31 +77,32 @@ body_encoding (Accepted position ballot command) =
 body_encoding (Ask position) = to_be_bytes w32 position
 body_encoding (Give position command) = to_be_bytes w32 position ++ blob32 (command_octets command)
 
-abbrev pub fields : Frame → List ℕ
-fields (Peer message) = message.from ∷ message.to ∷ body_encoding message.body
-fields (Submit command) = blob32 (command_octets command)
-fields (Question question) = blob32 (question_octets question)
-fields Take = []
-fields (Outcome id) = id
-fields CatchUp = []
-fields Status = []
-fields Compact = []
-fields Identify = []
-fields Report = []
-fields (Done count) = to_be_bytes w32 count
-fields (Started position ballot) = to_be_bytes w32 position ++ to_be_bytes w64 ballot
-fields (Settled position outcome) = to_be_bytes w32 position ++ outcome_encoding outcome
-fields (Answer answer) = answer_octets answer
-fields Unknown = []
-fields (NodeFault fault) = node_fault_code fault ∷ []
-fields (FrameFault fault) = frame_fault_code fault ∷ []
-fields (Prefix prefix) = to_be_bytes w32 prefix
-fields (Identity node nodes group) = node ∷ nodes ∷ to_be_bytes w32 group
-fields (Reported text) = blob32 text
+abbrev pub frame_fields : Frame → List ℕ
+frame_fields (Peer message) = message.from ∷ message.to ∷ body_encoding message.body
+frame_fields (Submit command) = blob32 (command_octets command)
+frame_fields (Question question) = blob32 (question_octets question)
+frame_fields Take = []
+frame_fields (Outcome id) = id
+frame_fields CatchUp = []
+frame_fields Status = []
+frame_fields Compact = []
+frame_fields Identify = []
+frame_fields Report = []
+frame_fields (Done count) = to_be_bytes w32 count
+frame_fields (Started position ballot) = to_be_bytes w32 position ++ to_be_bytes w64 ballot
+frame_fields (Settled position outcome) = to_be_bytes w32 position ++ outcome_encoding outcome
+frame_fields (Answer answer) = answer_octets answer
+frame_fields Unknown = []
+frame_fields (NodeFault fault) = node_fault_code fault ∷ []
+frame_fields (FrameFault fault) = frame_fault_code fault ∷ []
+frame_fields (Prefix prefix) = to_be_bytes w32 prefix
+frame_fields (Identity node nodes group) = node ∷ nodes ∷ to_be_bytes w32 group
+frame_fields (Reported text) = blob32 text
 
 -- four octets of the length of what follows; the version, 02; the kind; the fields
-abbrev pub encoding : Frame → List ℕ
-encoding frame = to_be_bytes w32 (2 + length (fields frame)) ++ (2 ∷ kind_of frame ∷ fields frame)
+abbrev pub frame_encoding : Frame → List ℕ
+frame_encoding frame = to_be_bytes w32 (2 + length (frame_fields frame)) ++
+    (2 ∷ frame_kind frame ∷ frame_fields frame)
 
 -- ---- which have an encoding
 
@@ -123,23 +124,25 @@ BodyFits (Ask position) = is_position position ≡ true
 BodyFits (Give position command) = (is_position position ≡ true) × CommandFits command
 
 -- each field is in its range
-abbrev pub FieldsFit : Frame → Type 0
-FieldsFit (Peer message) = (is_node message.from ≡ true) × (is_node message.to ≡ true)
+abbrev pub FrameFieldsFit : Frame → Type 0
+FrameFieldsFit (Peer message) = (is_node_number message.from ≡ true)
+    × (is_node_number message.to ≡ true)
     × BodyFits message.body
-FieldsFit (Submit command) = CommandFits command
-FieldsFit (Question question) = QuestionFits question
-FieldsFit (Outcome id) = length id ≡ 16
-FieldsFit (Done count) = nat_lt count 4294967296 ≡ true
-FieldsFit (Started position ballot) = (is_position position ≡ true) × (is_ballot ballot ≡ true)
-FieldsFit (Settled position outcome) = (is_position position ≡ true) × OutcomeFits outcome
-FieldsFit (Answer answer) = AnswerFits answer
-FieldsFit (Prefix prefix) = nat_le prefix 1000000 ≡ true
-FieldsFit (Identity node nodes group) = (is_node node ≡ true) × (is_node nodes ≡ true)
+FrameFieldsFit (Submit command) = CommandFits command
+FrameFieldsFit (Question question) = QuestionFits question
+FrameFieldsFit (Outcome id) = length id ≡ 16
+FrameFieldsFit (Done count) = nat_lt count 4294967296 ≡ true
+FrameFieldsFit (Started position ballot) = (is_position position ≡ true) × (is_ballot ballot ≡ true)
+FrameFieldsFit (Settled position outcome) = (is_position position ≡ true) × OutcomeFits outcome
+FrameFieldsFit (Answer answer) = AnswerFits answer
+FrameFieldsFit (Prefix prefix) = nat_le prefix 1000000 ≡ true
+FrameFieldsFit (Identity node nodes group) = (is_node_number node ≡ true)
+    × (is_node_number nodes ≡ true)
     × (nat_lt group 4294967296 ≡ true)
-FieldsFit (Reported text) = length text < 2 ^ 32
-FieldsFit other = Unit {0}
+FrameFieldsFit (Reported text) = length text < 2 ^ 32
+FrameFieldsFit other = Unit {0}
 
 -- the fields fit, and the length is at most 8,388,608
-pub record Fits (frame : Frame) : Type 0 where
-  pub ranges : FieldsFit frame
-  pub short : 2 + length (fields frame) ≤ 8388608
+pub record FrameFits (frame : Frame) : Type 0 where
+  pub ranges : FrameFieldsFit frame
+  pub short : 2 + length (frame_fields frame) ≤ 8388608

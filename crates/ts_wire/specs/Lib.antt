@@ -1,5 +1,5 @@
 pub mod Outcomes
 pub mod Frames
-pub mod FrameReading
 pub mod Stream
 pub mod Taking
+pub mod inside

@@ -9,10 +9,10 @@ use Rattle.ts_store.specs.declared.outcome.Refusal.TheVariants.{AnchorThere, NoA
 use Rattle.ts_store.specs.declared.outcome.Refusal.TheVariants.{OlderCrl, CriticalCrlExtension}
 use Rattle.ts_store.specs.declared.outcome.Refusal.TheVariants.{StoreFull, DeltaCrl, NoCrl}
 use Rattle.ts_store.specs.declared.outcome.Refusal.TheVariants.{RelativeName, Indirect}
-use Rattle.ts_wire.specs.declared.fault.NodeFault.{NodeFault}
-use Rattle.ts_wire.specs.declared.fault.NodeFault.TheVariants.{Memory, DiskFailed, Broken}
-use Rattle.ts_wire.specs.declared.fault.NodeFault.TheVariants.{RoundsExhausted, PositionsExhausted}
-use Rattle.ts_wire.specs.declared.fault.NodeFault.TheVariants.{GenerationsExhausted}
+use Rattle.ts_synod.specs.declared.fault.NodeFault.{NodeFault}
+use Rattle.ts_synod.specs.declared.fault.NodeFault.TheVariants.{Memory, DiskFailed, Broken}
+use Rattle.ts_synod.specs.declared.fault.NodeFault.TheVariants.{RoundsExhausted, PositionsExhausted}
+use Rattle.ts_synod.specs.declared.fault.NodeFault.TheVariants.{GenerationsExhausted}
 use Rattle.ts_wire.specs.declared.fault.FrameFault.{FrameFault}
 use Rattle.ts_wire.specs.declared.fault.FrameFault.TheVariants.{Length, Version, Kind, Field}
 use Rattle.ts_wire.specs.declared.fault.FrameFault.TheVariants.{Trailing}

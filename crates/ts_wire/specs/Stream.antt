@@ -3,7 +3,8 @@ use Rattle.std.specs.Prelude.{◌≡◌, ◌≢◌, ◌⊎◌, ◌≤◌, ◌<�
 use Rattle.std.specs.Prelude.{length, Option, Some, None}
 use Rattle.std.specs.List.{flat_map, AllByRecursion}
 use Rattle.std.specs.Int.{to_be_bytes, w32}
-use Rattle.ts_wire.specs.Frames.{kind_of, is_kind, fields, encoding, Fits, FieldsFit}
+use Rattle.ts_wire.specs.Frames.{frame_kind, is_kind, frame_fields, frame_encoding, FrameFits}
+use Rattle.ts_wire.specs.Frames.{FrameFieldsFit}
 use Rattle.ts_wire.specs.declared.fault.FrameFault.{FrameFault}
 use Rattle.ts_wire.specs.declared.fault.FrameFault.TheVariants.{Length, Version, Kind, Field}
 use Rattle.ts_wire.specs.declared.fault.FrameFault.TheVariants.{Trailing}
@@ -21,7 +22,7 @@ IsPartial octets = (length octets < 4)
 
 -- octets begin with so many after their length, of which these are the version, the kind and the
 -- rest
-pub record Framed (octets : List ℕ) (version kind : ℕ) (rest : List ℕ) : Type 0 where
+pub record IsFramed (octets : List ℕ) (version kind : ℕ) (rest : List ℕ) : Type 0 where
   pub after : List ℕ
   pub short : 2 + length rest ≤ 8388608
   pub is : octets ≡ to_be_bytes w32 (2 + length rest) ++ (version ∷ kind ∷ (rest ++ after))
@@ -29,12 +30,13 @@ pub record Framed (octets : List ℕ) (version kind : ℕ) (rest : List ℕ) : T
 -- these octets are in the place of a frame's fields: none begins with any of the kind's, or more
 -- follow
 abbrev pub IsCut : ℕ → List ℕ → Type 0
-IsCut kind octets = (frame : Frame) (after : List ℕ) → FieldsFit frame → kind_of frame ≡ kind
-    → octets ≡ fields frame ++ after → ⊥
+IsCut kind octets = (frame : Frame) (after : List ℕ) → FrameFieldsFit frame → frame_kind frame
+    ≡ kind
+    → octets ≡ frame_fields frame ++ after → ⊥
 
 abbrev pub GoesOn : ℕ → List ℕ → Type 0
-GoesOn kind octets = (frame : Frame) × (next : ℕ) × (after : List ℕ) × FieldsFit frame
-    × (kind_of frame ≡ kind) × (octets ≡ fields frame ++ next ∷ after)
+GoesOn kind octets = (frame : Frame) × (next : ℕ) × (after : List ℕ) × FrameFieldsFit frame
+    × (frame_kind frame ≡ kind) × (octets ≡ frame_fields frame ++ next ∷ after)
 
 -- The fault that is in a frame's place: a length out of range, as soon as its octets are there;
 -- then, with the frame whole, another version, a kind that there isn't, a field that is cut or out
@@ -42,13 +44,13 @@ GoesOn kind octets = (frame : Frame) × (next : ℕ) × (after : List ℕ) × Fi
 abbrev pub IsFault : FrameFault → List ℕ → Type 0
 IsFault Length octets = (n : ℕ) × (after : List ℕ) × (n < 2 ^ 32) × (n < 2 ⊎ 8388608 < n)
     × (octets ≡ to_be_bytes w32 n ++ after)
-IsFault Version octets = (version kind : ℕ) × (rest : List ℕ) × Framed octets version kind rest
+IsFault Version octets = (version kind : ℕ) × (rest : List ℕ) × IsFramed octets version kind rest
     × (version ≢ 2)
-IsFault Kind octets = (kind : ℕ) × (rest : List ℕ) × Framed octets 2 kind rest
+IsFault Kind octets = (kind : ℕ) × (rest : List ℕ) × IsFramed octets 2 kind rest
     × (is_kind kind ≡ false)
-IsFault Field octets = (kind : ℕ) × (rest : List ℕ) × Framed octets 2 kind rest
+IsFault Field octets = (kind : ℕ) × (rest : List ℕ) × IsFramed octets 2 kind rest
     × (is_kind kind ≡ true) × IsCut kind rest
-IsFault Trailing octets = (kind : ℕ) × (rest : List ℕ) × Framed octets 2 kind rest
+IsFault Trailing octets = (kind : ℕ) × (rest : List ℕ) × IsFramed octets 2 kind rest
     × (is_kind kind ≡ true) × GoesOn kind rest
 
 -- where a fault stands, or less than a whole frame
@@ -60,6 +62,6 @@ Ends (Some fault) octets = IsFault fault octets
 -- in a frame's place
 pub record Splits (stream : List ℕ) (frames : List Frame) (fault : Option FrameFault) : Type 0 where
   pub rest : List ℕ
-  pub is : stream ≡ flat_map encoding frames ++ rest
-  pub each : AllByRecursion Fits frames
+  pub is : stream ≡ flat_map frame_encoding frames ++ rest
+  pub each : AllByRecursion FrameFits frames
   pub ends : Ends fault rest

@@ -1,24 +1,9 @@
-//! Faults, as they are in frames, and why a frame is not read or written.
+//! Codes of faults in frames, and what is wrong in a frame's place.
 
 ghost use Rattle.std.specs.Prelude.{◌≡◌};
 ghost use Rattle.ts_wire.specs.Outcomes.{node_fault_code, frame_fault_code};
 
-/// Why a node could not handle a frame.
-#[derive(Clone, Copy, Debug, PartialEq, Eq)]
-pub enum NodeFault {
-    /// Memory was refused.
-    Memory,
-    /// The disk failed.
-    DiskFailed,
-    /// The disk failed before.
-    Broken,
-    /// No round is left.
-    RoundsExhausted,
-    /// No position is left.
-    PositionsExhausted,
-    /// No generation of the record is left.
-    GenerationsExhausted,
-}
+use ts_synod::NodeFault;
 
 /// What is wrong in a frame's place. Of several faults the first counts.
 #[derive(Clone, Copy, Debug, PartialEq, Eq)]
@@ -35,19 +20,17 @@ pub enum FrameFault {
     Trailing,
 }
 
-impl NodeFault {
-    /// The code, from 1 to 6.
-    pub fn code(self) -> u8
-        ensures { result ≡ node_fault_code self }
-    {
-        match self {
-            NodeFault::Memory => 1,
-            NodeFault::DiskFailed => 2,
-            NodeFault::Broken => 3,
-            NodeFault::RoundsExhausted => 4,
-            NodeFault::PositionsExhausted => 5,
-            NodeFault::GenerationsExhausted => 6,
-        }
+/// The code of a node's fault, from 1 to 6.
+pub(crate) fn code_of(fault: NodeFault) -> u8
+    ensures { result ≡ node_fault_code fault }
+{
+    match fault {
+        NodeFault::Memory => 1,
+        NodeFault::DiskFailed => 2,
+        NodeFault::Broken => 3,
+        NodeFault::RoundsExhausted => 4,
+        NodeFault::PositionsExhausted => 5,
+        NodeFault::GenerationsExhausted => 6,
     }
 }
 

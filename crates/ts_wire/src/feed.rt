@@ -4,10 +4,11 @@ ghost use Rattle.std.specs.Prelude.{◌≡◌, ◌≤◌, ◌<◌, ◌^◌, ◌+
 ghost use Rattle.std.specs.Prelude.{drop, nat_eq, OnOk, OnErr, IfOk, IfSome, IfNone, MatchResult};
 ghost use Rattle.std.specs.Prelude.{MatchOption, ⊤};
 ghost use Rattle.std.specs.Int.{to_be_bytes, w32};
-ghost use Rattle.ts_wire.specs.Frames.{encoding, Fits};
-ghost use Rattle.ts_wire.specs.FrameReading.{frame_in};
+ghost use Rattle.ts_wire.specs.Frames.{frame_encoding, FrameFits};
+ghost use Rattle.ts_wire.specs.inside.FrameReading.{frame_in};
 ghost use Rattle.ts_wire.specs.Stream.{IsPartial, IsFault};
-ghost use Rattle.ts_wire.specs.Taking.{FrameGives, IsWrong, SizeOr};
+ghost use Rattle.ts_wire.specs.Taking.{IsWrong};
+ghost use Rattle.ts_wire.specs.inside.Taking.{FrameGives, SizeOr};
 
 use crate::fault::FrameFault;
 use crate::frame::Frame;
@@ -19,7 +20,7 @@ use std::marker::Model;
 use ts_codec::ReadFault;
 
 /// The frame that follows its length.
-#[tactic(auto, unfolding(crate::specs::FrameReading::frame_in))]
+#[tactic(auto, unfolding(crate::specs::inside::FrameReading::frame_in))]
 fn frame_of(alloc: Global, body: &[u8]) -> Result<Frame, FeedError>
     ensures { FrameGives result (frame_in body.now) }
 {
@@ -37,6 +38,7 @@ fn frame_of(alloc: Global, body: &[u8]) -> Result<Frame, FeedError>
             if after.is_empty() {
                 Ok(frame)
             } else {
+                drop(frame);
                 Err(FeedError::Frame(FrameFault::Trailing))
             }
         }
@@ -79,8 +81,8 @@ fn size_of(octets: &[u8]) -> Result<Option<usize>, FrameFault>
 fn first(alloc: Global, octets: &[u8]) -> Result<Option<(Frame, usize)>, FeedError>
     ensures { MatchResult result
         (λ found. MatchOption found (IsPartial octets.now)
-        (λ x. Fits x.0 × (x.1 ≤ length octets.now)
-        × (octets.now ≡ encoding x.0 ++ drop x.1 octets.now)))
+        (λ x. FrameFits x.0 × (x.1 ≤ length octets.now)
+        × (octets.now ≡ frame_encoding x.0 ++ drop x.1 octets.now)))
         (λ e. IsWrong e octets.now) }
 {
     let size = match size_of(octets) {
@@ -174,7 +176,7 @@ impl Feed {
     /// then: a fault is answered again, whatever comes after it.
     pub fn take(&mut self) -> Result<Option<Frame>, FeedError>
         ensures frame { IfOk result (λ found. IfSome found
-            (λ frame. Fits frame × (self.old ≡ encoding frame ++ self.new))) }
+            (λ frame. FrameFits frame × (self.old ≡ frame_encoding frame ++ self.new))) }
         ensures partial { IfOk result (λ found. IfNone found
             (IsPartial self.old × (self.new ≡ self.old))) }
         ensures wrong { MatchResult result (λ _. ⊤)

@@ -1,17 +1,17 @@
 //! Laws about streams of frames. Each is the contract of a function that does nothing.
 
 ghost use Rattle.std.specs.Prelude.{◌≡◌, ◌++◌, ℕ, List, Option};
-ghost use Rattle.ts_wire.specs.Frames.{encoding, Fits};
+ghost use Rattle.ts_wire.specs.Frames.{frame_encoding, FrameFits};
 ghost use Rattle.ts_wire.specs.Stream.{IsFault, Splits};
 ghost use Rattle.ts_wire.specs.declared.fault.FrameFault.{FrameFault};
 ghost use Rattle.ts_wire.specs.declared.frame.Frame.{Frame};
 
 /// No frame's encoding is the beginning of another's.
 pub fn no_front()
-    ensures frame { (f g : Frame) (a b : List ℕ) → Fits f → Fits g
-        → encoding f ++ a ≡ encoding g ++ b → f ≡ g }
-    ensures rest { (f g : Frame) (a b : List ℕ) → Fits f → Fits g
-        → encoding f ++ a ≡ encoding g ++ b → a ≡ b }
+    ensures frame { (f g : Frame) (a b : List ℕ) → FrameFits f → FrameFits g
+        → frame_encoding f ++ a ≡ frame_encoding g ++ b → f ≡ g }
+    ensures rest { (f g : Frame) (a b : List ℕ) → FrameFits f → FrameFits g
+        → frame_encoding f ++ a ≡ frame_encoding g ++ b → a ≡ b }
 {}
 
 /// A stream is one list of frames, up to one fault or none.

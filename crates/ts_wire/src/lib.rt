@@ -42,7 +42,7 @@ mod stream;
 mod wire_error;
 mod writing;
 
-pub use fault::{FrameFault, NodeFault};
+pub use fault::FrameFault;
 pub use feed::Feed;
 pub use frame::Frame;
 pub use stream::decode;

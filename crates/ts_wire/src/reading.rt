@@ -4,13 +4,17 @@ ghost use Rattle.std.specs.Prelude.{◌≡◌};
 ghost use Rattle.ts_codec.specs.Reading.{Gives, lookup, within_blob_at};
 ghost use Rattle.ts_question.specs.QuestionReading.{question_at};
 ghost use Rattle.ts_wire.specs.Frames.{is_kind};
-ghost use Rattle.ts_wire.specs.FrameReading.{blob_command_at, vote_at, taken_at, peer, prepare_at};
-ghost use Rattle.ts_wire.specs.FrameReading.{promise_at, busy_at, accept_at, accepted_at, ask_at};
-ghost use Rattle.ts_wire.specs.FrameReading.{give_at, started_at, refusals, refused_at, outcome_at};
-ghost use Rattle.ts_wire.specs.FrameReading.{settled_at, node_faults, frame_faults, identity_at};
-ghost use Rattle.ts_wire.specs.FrameReading.{fields_at};
+ghost use Rattle.ts_wire.specs.inside.FrameReading.{blob_command_at, vote_at, taken_at, peer};
+ghost use Rattle.ts_wire.specs.inside.FrameReading.{prepare_at};
+ghost use Rattle.ts_wire.specs.inside.FrameReading.{promise_at, busy_at, accept_at, accepted_at};
+ghost use Rattle.ts_wire.specs.inside.FrameReading.{ask_at};
+ghost use Rattle.ts_wire.specs.inside.FrameReading.{give_at, started_at, refusals, refused_at};
+ghost use Rattle.ts_wire.specs.inside.FrameReading.{outcome_at};
+ghost use Rattle.ts_wire.specs.inside.FrameReading.{settled_at, node_faults, frame_faults};
+ghost use Rattle.ts_wire.specs.inside.FrameReading.{identity_at};
+ghost use Rattle.ts_wire.specs.inside.FrameReading.{fields_at};
 
-use crate::fault::{FrameFault, NodeFault};
+use crate::fault::FrameFault;
 use crate::frame::Frame;
 use crate::route::{Route, head};
 use std::alloc::Global;
@@ -19,11 +23,11 @@ use ts_codec::reading::{ballot, blob32, id, node, number32, octet, position, pre
 use ts_octets::Octets;
 use ts_question::{Answer, Question};
 use ts_store::{Command, Outcome, Refusal};
-use ts_synod::{Body, Message, Vote};
+use ts_synod::{Body, Message, NodeFault, Vote};
 
 /// The command whose encoding is the blob that begins here, and what follows the blob. A blob that
 /// is no command is refused.
-#[tactic(auto, unfolding(crate::specs::FrameReading::blob_command_at, ts_codec::specs::Reading::within_blob_at))]
+#[tactic(auto, unfolding(crate::specs::inside::FrameReading::blob_command_at, ts_codec::specs::Reading::within_blob_at))]
 fn command(alloc: Global, octets: &[u8]) -> Result<(Command, &[u8]), ReadFault>
     ensures { Gives (λ x. (x.0, x.1.now)) result (blob_command_at octets.now) }
 {
@@ -48,7 +52,7 @@ fn question(alloc: Global, octets: &[u8]) -> Result<(Question, &[u8]), ReadFault
 }
 
 /// The vote that begins here, a ballot and a command, and what follows it.
-#[tactic(auto, unfolding(crate::specs::FrameReading::vote_at))]
+#[tactic(auto, unfolding(crate::specs::inside::FrameReading::vote_at))]
 fn vote(alloc: Global, octets: &[u8]) -> Result<(Vote<Command>, &[u8]), ReadFault>
     ensures { Gives (λ x. (x.0, x.1.now)) result (vote_at octets.now) }
 {
@@ -59,8 +63,8 @@ fn vote(alloc: Global, octets: &[u8]) -> Result<(Vote<Command>, &[u8]), ReadFaul
 
 /// The vote that a promise reports, or none, and what follows it. A flag that is neither 0 nor 1 is
 /// refused.
-#[tactic(auto, unfolding(crate::specs::FrameReading::taken_at, ts_codec::specs::Reading::of_kind))]
-fn taken(alloc: Global, octets: &[u8]) -> Result<(Option<Vote<Command>>, &[u8]), ReadFault>
+#[tactic(auto, unfolding(crate::specs::inside::FrameReading::taken_at, ts_codec::specs::Reading::of_kind))]
+fn vote_taken(alloc: Global, octets: &[u8]) -> Result<(Option<Vote<Command>>, &[u8]), ReadFault>
     ensures { Gives (λ x. (x.0, x.1.now)) result (taken_at octets.now) }
 {
     let (flag, rest) = octet(octets)?;
@@ -86,7 +90,7 @@ fn peer(route: Route, body: Body<Command>) -> Frame
 }
 
 /// A prepare request, from the fields after its kind, and what follows them.
-#[tactic(auto, unfolding(crate::specs::FrameReading::prepare_at))]
+#[tactic(auto, unfolding(crate::specs::inside::FrameReading::prepare_at))]
 fn prepare(octets: &[u8]) -> Result<(Frame, &[u8]), ReadFault>
     ensures { Gives (λ x. (x.0, x.1.now)) result (prepare_at octets.now) }
 {
@@ -97,13 +101,13 @@ fn prepare(octets: &[u8]) -> Result<(Frame, &[u8]), ReadFault>
 }
 
 /// A promise, from the fields after its kind, and what follows them.
-#[tactic(auto, unfolding(crate::specs::FrameReading::promise_at))]
+#[tactic(auto, unfolding(crate::specs::inside::FrameReading::promise_at))]
 fn promise(alloc: Global, octets: &[u8]) -> Result<(Frame, &[u8]), ReadFault>
     ensures { Gives (λ x. (x.0, x.1.now)) result (promise_at octets.now) }
 {
     let (route, rest) = head(octets)?;
     let (ballot, rest) = ballot(rest)?;
-    let (taken, rest) = taken(alloc, rest)?;
+    let (taken, rest) = vote_taken(alloc, rest)?;
     let position = route.position;
     let body = Body::Promise {
         position,
@@ -115,7 +119,7 @@ fn promise(alloc: Global, octets: &[u8]) -> Result<(Frame, &[u8]), ReadFault>
 
 /// The message that a greater ballot was promised, from the fields after its kind, and what follows
 /// them.
-#[tactic(auto, unfolding(crate::specs::FrameReading::busy_at))]
+#[tactic(auto, unfolding(crate::specs::inside::FrameReading::busy_at))]
 fn busy(octets: &[u8]) -> Result<(Frame, &[u8]), ReadFault>
     ensures { Gives (λ x. (x.0, x.1.now)) result (busy_at octets.now) }
 {
@@ -131,7 +135,7 @@ fn busy(octets: &[u8]) -> Result<(Frame, &[u8]), ReadFault>
 }
 
 /// An accept request, from the fields after its kind, and what follows them.
-#[tactic(auto, unfolding(crate::specs::FrameReading::accept_at))]
+#[tactic(auto, unfolding(crate::specs::inside::FrameReading::accept_at))]
 fn accept(alloc: Global, octets: &[u8]) -> Result<(Frame, &[u8]), ReadFault>
     ensures { Gives (λ x. (x.0, x.1.now)) result (accept_at octets.now) }
 {
@@ -147,8 +151,8 @@ fn accept(alloc: Global, octets: &[u8]) -> Result<(Frame, &[u8]), ReadFault>
 }
 
 /// The message that a vote was taken, from the fields after its kind, and what follows them.
-#[tactic(auto, unfolding(crate::specs::FrameReading::accepted_at))]
-fn accepted(alloc: Global, octets: &[u8]) -> Result<(Frame, &[u8]), ReadFault>
+#[tactic(auto, unfolding(crate::specs::inside::FrameReading::accepted_at))]
+fn accepted_message(alloc: Global, octets: &[u8]) -> Result<(Frame, &[u8]), ReadFault>
     ensures { Gives (λ x. (x.0, x.1.now)) result (accepted_at octets.now) }
 {
     let (route, rest) = head(octets)?;
@@ -164,7 +168,7 @@ fn accepted(alloc: Global, octets: &[u8]) -> Result<(Frame, &[u8]), ReadFault>
 
 /// The message that asks for the command of a position, from the fields after its kind, and what
 /// follows them.
-#[tactic(auto, unfolding(crate::specs::FrameReading::ask_at))]
+#[tactic(auto, unfolding(crate::specs::inside::FrameReading::ask_at))]
 fn ask(octets: &[u8]) -> Result<(Frame, &[u8]), ReadFault>
     ensures { Gives (λ x. (x.0, x.1.now)) result (ask_at octets.now) }
 {
@@ -175,7 +179,7 @@ fn ask(octets: &[u8]) -> Result<(Frame, &[u8]), ReadFault>
 
 /// The message that gives the command of a position, from the fields after its kind, and what
 /// follows them.
-#[tactic(auto, unfolding(crate::specs::FrameReading::give_at))]
+#[tactic(auto, unfolding(crate::specs::inside::FrameReading::give_at))]
 fn give(alloc: Global, octets: &[u8]) -> Result<(Frame, &[u8]), ReadFault>
     ensures { Gives (λ x. (x.0, x.1.now)) result (give_at octets.now) }
 {
@@ -186,8 +190,8 @@ fn give(alloc: Global, octets: &[u8]) -> Result<(Frame, &[u8]), ReadFault>
 }
 
 /// The frame that says that a round began, from the fields after its kind, and what follows them.
-#[tactic(auto, unfolding(crate::specs::FrameReading::started_at))]
-fn started(octets: &[u8]) -> Result<(Frame, &[u8]), ReadFault>
+#[tactic(auto, unfolding(crate::specs::inside::FrameReading::started_at))]
+fn started_frame(octets: &[u8]) -> Result<(Frame, &[u8]), ReadFault>
     ensures { Gives (λ x. (x.0, x.1.now)) result (started_at octets.now) }
 {
     let (position, rest) = position(octets)?;
@@ -216,8 +220,8 @@ fn refusal(code: u8) -> Option<Refusal>
 
 /// The outcome that a command was refused, from the code that begins here, and what follows it. An
 /// unknown code is refused.
-#[tactic(auto, unfolding(crate::specs::FrameReading::refused_at, ts_codec::specs::Reading::code_at))]
-fn refused(octets: &[u8]) -> Result<(Outcome, &[u8]), ReadFault>
+#[tactic(auto, unfolding(crate::specs::inside::FrameReading::refused_at, ts_codec::specs::Reading::code_at))]
+fn refused_outcome(octets: &[u8]) -> Result<(Outcome, &[u8]), ReadFault>
     ensures { Gives (λ x. (x.0, x.1.now)) result (refused_at octets.now) }
 {
     let (code, rest) = octet(octets)?;
@@ -228,7 +232,7 @@ fn refused(octets: &[u8]) -> Result<(Outcome, &[u8]), ReadFault>
 }
 
 /// The outcome of a command that begins here, and what follows it. An unknown form is refused.
-#[tactic(auto, unfolding(crate::specs::FrameReading::outcome_at, ts_codec::specs::Reading::of_kind))]
+#[tactic(auto, unfolding(crate::specs::inside::FrameReading::outcome_at, ts_codec::specs::Reading::of_kind))]
 fn outcome(octets: &[u8]) -> Result<(Outcome, &[u8]), ReadFault>
     ensures { Gives (λ x. (x.0, x.1.now)) result (outcome_at octets.now) }
 {
@@ -239,15 +243,15 @@ fn outcome(octets: &[u8]) -> Result<(Outcome, &[u8]), ReadFault>
             let (position, rest) = position(rest)?;
             Ok((Outcome::Repeated(position), rest))
         }
-        2 => refused(rest),
+        2 => refused_outcome(rest),
         _ => Err(ReadFault::Form),
     }
 }
 
 /// The frame that says where a command is and its outcome, from the fields after its kind, and what
 /// follows them.
-#[tactic(auto, unfolding(crate::specs::FrameReading::settled_at))]
-fn settled(octets: &[u8]) -> Result<(Frame, &[u8]), ReadFault>
+#[tactic(auto, unfolding(crate::specs::inside::FrameReading::settled_at))]
+fn settled_frame(octets: &[u8]) -> Result<(Frame, &[u8]), ReadFault>
     ensures { Gives (λ x. (x.0, x.1.now)) result (settled_at octets.now) }
 {
     let (position, rest) = position(octets)?;
@@ -272,7 +276,7 @@ fn node_fault_of(code: u8) -> Option<NodeFault>
 
 /// The frame that reports a node's fault, from the code after its kind, and what follows it. An
 /// unknown code is refused.
-#[tactic(auto, unfolding(crate::specs::FrameReading::fields_at, ts_codec::specs::Reading::of_kind, ts_codec::specs::Reading::code_at))]
+#[tactic(auto, unfolding(crate::specs::inside::FrameReading::fields_at, ts_codec::specs::Reading::of_kind, ts_codec::specs::Reading::code_at))]
 fn node_fault(octets: &[u8]) -> Result<(Frame, &[u8]), ReadFault>
     ensures { Gives (λ x. (x.0, x.1.now)) result (fields_at 0x25 octets.now) }
 {
@@ -299,7 +303,7 @@ fn frame_fault_of(code: u8) -> Option<FrameFault>
 
 /// The frame that reports a wrong frame, from the code after its kind, and what follows it. An
 /// unknown code is refused.
-#[tactic(auto, unfolding(crate::specs::FrameReading::fields_at, ts_codec::specs::Reading::of_kind, ts_codec::specs::Reading::code_at))]
+#[tactic(auto, unfolding(crate::specs::inside::FrameReading::fields_at, ts_codec::specs::Reading::of_kind, ts_codec::specs::Reading::code_at))]
 fn frame_fault(octets: &[u8]) -> Result<(Frame, &[u8]), ReadFault>
     ensures { Gives (λ x. (x.0, x.1.now)) result (fields_at 0x26 octets.now) }
 {
@@ -312,7 +316,7 @@ fn frame_fault(octets: &[u8]) -> Result<(Frame, &[u8]), ReadFault>
 
 /// The frame that says which node of which group it is, from the fields after its kind, and what
 /// follows them.
-#[tactic(auto, unfolding(crate::specs::FrameReading::identity_at))]
+#[tactic(auto, unfolding(crate::specs::inside::FrameReading::identity_at))]
 fn identity(octets: &[u8]) -> Result<(Frame, &[u8]), ReadFault>
     ensures { Gives (λ x. (x.0, x.1.now)) result (identity_at octets.now) }
 {
@@ -328,7 +332,7 @@ fn identity(octets: &[u8]) -> Result<(Frame, &[u8]), ReadFault>
 }
 
 /// The frame that submits a command, from the fields after its kind, and what follows them.
-#[tactic(auto, unfolding(crate::specs::FrameReading::fields_at, ts_codec::specs::Reading::of_kind))]
+#[tactic(auto, unfolding(crate::specs::inside::FrameReading::fields_at, ts_codec::specs::Reading::of_kind))]
 fn submit(alloc: Global, octets: &[u8]) -> Result<(Frame, &[u8]), ReadFault>
     ensures { Gives (λ x. (x.0, x.1.now)) result (fields_at 0x10 octets.now) }
 {
@@ -337,8 +341,8 @@ fn submit(alloc: Global, octets: &[u8]) -> Result<(Frame, &[u8]), ReadFault>
 }
 
 /// The frame that asks a question, from the fields after its kind, and what follows them.
-#[tactic(auto, unfolding(crate::specs::FrameReading::fields_at, ts_codec::specs::Reading::of_kind))]
-fn asked(alloc: Global, octets: &[u8]) -> Result<(Frame, &[u8]), ReadFault>
+#[tactic(auto, unfolding(crate::specs::inside::FrameReading::fields_at, ts_codec::specs::Reading::of_kind))]
+fn question_frame(alloc: Global, octets: &[u8]) -> Result<(Frame, &[u8]), ReadFault>
     ensures { Gives (λ x. (x.0, x.1.now)) result (fields_at 0x11 octets.now) }
 {
     let (question, rest) = question(alloc, octets)?;
@@ -347,7 +351,7 @@ fn asked(alloc: Global, octets: &[u8]) -> Result<(Frame, &[u8]), ReadFault>
 
 /// The frame that asks for the outcome of a command, from the id after its kind, and what follows
 /// it.
-#[tactic(auto, unfolding(crate::specs::FrameReading::fields_at, ts_codec::specs::Reading::of_kind))]
+#[tactic(auto, unfolding(crate::specs::inside::FrameReading::fields_at, ts_codec::specs::Reading::of_kind))]
 fn inquiry(octets: &[u8]) -> Result<(Frame, &[u8]), ReadFault>
     ensures { Gives (λ x. (x.0, x.1.now)) result (fields_at 0x13 octets.now) }
 {
@@ -357,7 +361,7 @@ fn inquiry(octets: &[u8]) -> Result<(Frame, &[u8]), ReadFault>
 
 /// The frame that says that it was done, or how many messages were given, from the fields after its
 /// kind, and what follows them.
-#[tactic(auto, unfolding(crate::specs::FrameReading::fields_at, ts_codec::specs::Reading::of_kind))]
+#[tactic(auto, unfolding(crate::specs::inside::FrameReading::fields_at, ts_codec::specs::Reading::of_kind))]
 fn done(octets: &[u8]) -> Result<(Frame, &[u8]), ReadFault>
     ensures { Gives (λ x. (x.0, x.1.now)) result (fields_at 0x20 octets.now) }
 {
@@ -366,8 +370,8 @@ fn done(octets: &[u8]) -> Result<(Frame, &[u8]), ReadFault>
 }
 
 /// The frame that carries an answer, from the fields after its kind, and what follows them.
-#[tactic(auto, unfolding(crate::specs::FrameReading::fields_at, ts_codec::specs::Reading::of_kind))]
-fn replied(alloc: Global, octets: &[u8]) -> Result<(Frame, &[u8]), ReadFault>
+#[tactic(auto, unfolding(crate::specs::inside::FrameReading::fields_at, ts_codec::specs::Reading::of_kind))]
+fn answer_frame(alloc: Global, octets: &[u8]) -> Result<(Frame, &[u8]), ReadFault>
     ensures { Gives (λ x. (x.0, x.1.now)) result (fields_at 0x23 octets.now) }
 {
     let (answer, rest) = Answer::read_front(alloc, octets)?;
@@ -376,7 +380,7 @@ fn replied(alloc: Global, octets: &[u8]) -> Result<(Frame, &[u8]), ReadFault>
 
 /// The frame that says how many commands are known, from the fields after its kind, and what
 /// follows them.
-#[tactic(auto, unfolding(crate::specs::FrameReading::fields_at, ts_codec::specs::Reading::of_kind))]
+#[tactic(auto, unfolding(crate::specs::inside::FrameReading::fields_at, ts_codec::specs::Reading::of_kind))]
 fn known(octets: &[u8]) -> Result<(Frame, &[u8]), ReadFault>
     ensures { Gives (λ x. (x.0, x.1.now)) result (fields_at 0x27 octets.now) }
 {
@@ -385,8 +389,8 @@ fn known(octets: &[u8]) -> Result<(Frame, &[u8]), ReadFault>
 }
 
 /// The text of a report, which is copied.
-#[tactic(auto, unfolding(crate::specs::FrameReading::fields_at, ts_codec::specs::Reading::of_kind))]
-fn reported(alloc: Global, octets: &[u8]) -> Result<(Frame, &[u8]), ReadFault>
+#[tactic(auto, unfolding(crate::specs::inside::FrameReading::fields_at, ts_codec::specs::Reading::of_kind))]
+fn report_frame(alloc: Global, octets: &[u8]) -> Result<(Frame, &[u8]), ReadFault>
     ensures { Gives (λ x. (x.0, x.1.now)) result (fields_at 0x29 octets.now) }
 {
     let (content, rest) = blob32(octets)?;
@@ -404,7 +408,7 @@ pub(crate) fn is_kind(kind: u8) -> bool
 }
 
 /// The fields of a frame of this kind, and what follows them.
-#[tactic(auto, unfolding(crate::specs::FrameReading::fields_at, ts_codec::specs::Reading::of_kind))]
+#[tactic(auto, unfolding(crate::specs::inside::FrameReading::fields_at, ts_codec::specs::Reading::of_kind))]
 pub(crate) fn fields(alloc: Global, kind: u8, octets: &[u8]) -> Result<(Frame, &[u8]), ReadFault>
     ensures { Gives (λ x. (x.0, x.1.now)) result (fields_at kind octets.now) }
 {
@@ -413,11 +417,11 @@ pub(crate) fn fields(alloc: Global, kind: u8, octets: &[u8]) -> Result<(Frame, &
         0x02 => promise(alloc, octets),
         0x03 => busy(octets),
         0x04 => accept(alloc, octets),
-        0x05 => accepted(alloc, octets),
+        0x05 => accepted_message(alloc, octets),
         0x06 => ask(octets),
         0x07 => give(alloc, octets),
         0x10 => submit(alloc, octets),
-        0x11 => asked(alloc, octets),
+        0x11 => question_frame(alloc, octets),
         0x12 => Ok((Frame::Take, octets)),
         0x13 => inquiry(octets),
         0x14 => Ok((Frame::CatchUp, octets)),
@@ -426,15 +430,15 @@ pub(crate) fn fields(alloc: Global, kind: u8, octets: &[u8]) -> Result<(Frame, &
         0x17 => Ok((Frame::Identify, octets)),
         0x18 => Ok((Frame::Report, octets)),
         0x20 => done(octets),
-        0x21 => started(octets),
-        0x22 => settled(octets),
-        0x23 => replied(alloc, octets),
+        0x21 => started_frame(octets),
+        0x22 => settled_frame(octets),
+        0x23 => answer_frame(alloc, octets),
         0x24 => Ok((Frame::Unknown, octets)),
         0x25 => node_fault(octets),
         0x26 => frame_fault(octets),
         0x27 => known(octets),
         0x28 => identity(octets),
-        0x29 => reported(alloc, octets),
+        0x29 => report_frame(alloc, octets),
         _ => Err(ReadFault::Form),
     }
 }

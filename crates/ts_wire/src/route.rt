@@ -2,7 +2,7 @@
 
 ghost use Rattle.std.specs.Prelude.{◌≡◌};
 ghost use Rattle.ts_codec.specs.Reading.{Gives};
-ghost use Rattle.ts_wire.specs.FrameReading.{route_at};
+ghost use Rattle.ts_wire.specs.inside.FrameReading.{route_at};
 
 use ts_codec::ReadFault;
 use ts_codec::reading::{node, position};
@@ -16,7 +16,7 @@ pub(crate) struct Route {
 }
 
 /// The first fields of a message.
-#[tactic(auto, unfolding(crate::specs::FrameReading::route_at))]
+#[tactic(auto, unfolding(crate::specs::inside::FrameReading::route_at))]
 pub(crate) fn head(octets: &[u8]) -> Result<(Route, &[u8]), ReadFault>
     ensures { Gives (λ x. (x.0, x.1.now)) result (route_at octets.now) }
 {

@@ -3,9 +3,9 @@
 ghost use Rattle.std.specs.Prelude.{◌≡◌, ◌≤◌, ◌<◌, ◌++◌, ℕ, List, Option, length, map, slice_index};
 ghost use Rattle.std.specs.Prelude.{IfOk};
 ghost use Rattle.std.specs.List.{flat_map, AllByRecursion};
-ghost use Rattle.ts_wire.specs.Frames.{encoding, Fits};
+ghost use Rattle.ts_wire.specs.Frames.{frame_encoding, FrameFits};
 ghost use Rattle.ts_wire.specs.Stream.{Ends, Splits};
-ghost use Rattle.ts_wire.specs.Taking.{Drains};
+ghost use Rattle.ts_wire.specs.inside.Taking.{Drains};
 ghost use Rattle.ts_wire.specs.declared.fault.FrameFault.{FrameFault};
 ghost use Rattle.ts_wire.specs.declared.frame.Frame.{Frame};
 

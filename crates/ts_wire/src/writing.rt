@@ -3,13 +3,15 @@
 ghost use Rattle.std.specs.Prelude.{◌≡◌, ◌≤◌, ◌<◌, ◌+◌, ◌++◌, ◌∷◌, length, IfOk, OnOk, OnErr, Err};
 ghost use Rattle.std.specs.Int.{to_be_bytes, w32, w64};
 ghost use Rattle.ts_codec.specs.Parts.{blob32};
-ghost use Rattle.ts_store.specs.Commands.{encoding as command_octets};
-ghost use Rattle.ts_question.specs.Question.{encoding as question_octets};
+ghost use Rattle.ts_store.specs.Commands.{command_encoding as command_octets};
+ghost use Rattle.ts_question.specs.Question.{question_encoding as question_octets};
 ghost use Rattle.ts_wire.specs.Outcomes.{refusal_code, outcome_encoding};
-ghost use Rattle.ts_wire.specs.Frames.{body_kind, kind_of, taken_encoding, body_encoding, fields};
-ghost use Rattle.ts_wire.specs.Frames.{encoding};
+ghost use Rattle.ts_wire.specs.Frames.{body_kind, frame_kind, taken_encoding, body_encoding};
+ghost use Rattle.ts_wire.specs.Frames.{frame_fields};
+ghost use Rattle.ts_wire.specs.Frames.{frame_encoding};
 ghost use Rattle.ts_wire.specs.declared.wire_error.WriteError.TheVariants.{Length};
 
+use crate::fault::code_of;
 use crate::frame::Frame;
 use crate::wire_error::WriteError;
 use std::alloc::{AllocError, Global};
@@ -167,7 +169,7 @@ fn push_outcome(out: &mut Vec<u8>, outcome: Outcome) -> Result<(), AllocError>
 
 /// The kind of a frame.
 fn kind_of(frame: &Frame) -> u8
-    ensures { result ≡ kind_of frame.now }
+    ensures { result ≡ frame_kind frame.now }
 {
     match frame {
         Frame::Peer(message) => body_kind(&message.body),
@@ -208,7 +210,7 @@ fn push_text(out: &mut Vec<u8>, text: &Octets) -> Result<(), AllocError>
 /// Writes the fields of a frame, which follow its kind.
 #[tactic(auto, using(crate::proofs::Joins::two))]
 fn push_fields(alloc: Global, out: &mut Vec<u8>, frame: &Frame) -> Result<(), AllocError>
-    ensures { OnOk result (out.new.items ≡ out.old.items ++ fields frame.now) }
+    ensures { OnOk result (out.new.items ≡ out.old.items ++ frame_fields frame.now) }
 {
     match frame {
         Frame::Peer(message) => {
@@ -229,7 +231,7 @@ fn push_fields(alloc: Global, out: &mut Vec<u8>, frame: &Frame) -> Result<(), Al
             push_outcome(out, *outcome)?;
         }
         Frame::Answer { answer } => answer.write(out)?,
-        Frame::NodeFault { fault } => out.push(fault.code())?,
+        Frame::NodeFault { fault } => out.push(code_of(*fault))?,
         Frame::FrameFault { fault } => out.push(fault.code())?,
         Frame::Prefix { prefix } => push_number32(out, *prefix)?,
         Frame::Identity { node, nodes, group } => {
@@ -251,7 +253,7 @@ fn push_fields(alloc: Global, out: &mut Vec<u8>, frame: &Frame) -> Result<(), Al
 
 /// What follows a frame's length: the version, the kind and the fields.
 fn body_of(alloc: Global, frame: &Frame) -> Result<Vec<u8>, AllocError>
-    ensures { IfOk result (λ body. body.items ≡ 2 ∷ kind_of frame.now ∷ fields frame.now) }
+    ensures { IfOk result (λ body. body.items ≡ 2 ∷ frame_kind frame.now ∷ frame_fields frame.now) }
 {
     let mut body = Vec::new(alloc);
     body.push(2)?;
@@ -278,9 +280,9 @@ fn append(alloc: Global, out: &mut Vec<u8>, size: [u8; 4], body: &[u8]) -> Resul
 /// `Length` exactly where the frame's length would be above 8,388,608, and else only out of memory.
 /// Nothing is written then.
 pub fn write_frame(alloc: Global, out: &mut Vec<u8>, frame: &Frame) -> Result<(), WriteError>
-    ensures encoded { OnOk result (out.new.items ≡ out.old.items ++ encoding frame.now) }
-    ensures short { OnOk result (2 + length (fields frame.now) ≤ 8388608) }
-    ensures length { result ≡ Err Length → 8388608 < 2 + length (fields frame.now) }
+    ensures encoded { OnOk result (out.new.items ≡ out.old.items ++ frame_encoding frame.now) }
+    ensures short { OnOk result (2 + length (frame_fields frame.now) ≤ 8388608) }
+    ensures length { result ≡ Err Length → 8388608 < 2 + length (frame_fields frame.now) }
     ensures unchanged { OnErr result (out.new.items ≡ out.old.items) }
 {
     let body = body_of(alloc, frame)?;

@@ -1,5 +1,5 @@
 use Rattle.std.proofs.Common.{◌≡◌, map, take}
-use Rattle.ts_answer.specs.Trusted.{trusted_in}
+use Rattle.ts_answer.specs.inside.Trusted.{trusted_in}
 use Rattle.ts_path.specs.View.{anchor_in}
 use Rattle.ts_answer.proofs.store.anchors_of.Given as goal
 

@@ -10,5 +10,15 @@ returns-in-Some-bounds_at c e =
     let bounds = c.in-Some-bounds_at.bounds in
     let has = c.in-Some-bounds_at.ensures.stands in
     let content = between octets bounds in
-    let is = eqb-true bounds.end c.args.end e in
-    (Some (encode c.in-Some.tag.now content), record { tag = c.in-Some.tag.now; content = content; fits = has.fits; encoded = refl }, subst (λ (n : ℕ). HavePart octets c.args.at (encode c.in-Some.tag.now content) n) is has.whole)
+    let is = eqb-true bounds.end c.args.end e in (
+      Some (encode c.in-Some.tag.now content),
+      record {
+        tag = c.in-Some.tag.now;
+        content =
+            content;
+        fits = has.fits;
+        encoded = refl;
+      },
+      subst
+          (λ (n : ℕ). HavePart octets c.args.at (encode c.in-Some.tag.now content) n) is has.whole,
+    )

@@ -1,4 +1,4 @@
-use Rattle.ts_cert.specs.Layout.{AreValidExplicit}
+use Rattle.ts_cert.specs.inside.Layout.{AreValidExplicit}
 use Rattle.ts_cert.proofs.Spanned.{spans, content-alone}
 use Rattle.ts_cert.proofs.fast.extensions_end.Goals as goal
 

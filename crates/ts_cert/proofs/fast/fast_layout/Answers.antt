@@ -1,6 +1,6 @@
 use Rattle.std.proofs.Common.{refl, subst, sym, ◌∙◌, ℕ, arith}
 use Rattle.ts_shape.specs.Fields.{Within, IsBits}
-use Rattle.ts_cert.specs.Layout.{Spans}
+use Rattle.ts_cert.specs.inside.Layout.{Spans}
 use Rattle.ts_cert.proofs.FastLayout.{fast-laid-out}
 use Rattle.ts_cert.proofs.fast.fast_layout.Goals as goal
 

@@ -1,6 +1,9 @@
 use Rattle.std.proofs.Common.{refl}
 use Rattle.ts_ext.specs.declared.known.Known.TheVariants as extension
-use Rattle.ts_ext.specs.Ext.{authorityKeyIdentifier, subjectKeyIdentifier, keyUsage, certificatePolicies, policyMappings, subjectAltName, issuerAltName, basicConstraints, nameConstraints, policyConstraints, extKeyUsage, cRLDistributionPoints, inhibitAnyPolicy, freshestCRL}
+use Rattle.ts_ext.specs.Ext.{authorityKeyIdentifier, subjectKeyIdentifier, keyUsage}
+use Rattle.ts_ext.specs.Ext.{certificatePolicies, policyMappings, subjectAltName, issuerAltName}
+use Rattle.ts_ext.specs.Ext.{basicConstraints, nameConstraints, policyConstraints, extKeyUsage}
+use Rattle.ts_ext.specs.Ext.{cRLDistributionPoints, inhibitAnyPolicy, freshestCRL}
 use Rattle.ts_ext.specs.Known.{known_at, certificate_extension}
 use Rattle.ts_ext.proofs.Constraints.{basic_constraints-format, policy_constraints-format}
 use Rattle.ts_ext.proofs.KeyAndConstraints.{authority_key-format, name_constraints-format, octets-format}

@@ -20,7 +20,7 @@ returns-in-Some-clause-asked g c =
     let words = map g.S.AsStr.text c.args.words.now in
     let parsed = c.in_ok-matches.ensures.matches (ap is_simple c.in_ok-commands.ensures ∙ commands_are_simple) in
     let pair : Some (c.in-Some.name.now, rows_of (found_of c.in-Some.inner.now)) ≡ subcommand_of commands words =
-    ap (option_map (λ p. (p.0.now, rows_of (found_of p.1.now)))) (sym c.in-Some.is) ∙ (c.given.ensures ∙ (parsed.1 ∙ ap (λ (a : App). subcommand_of a words) c.in_ok-commands.ensures)) in
+    ap (option_map (λ p. (p.0.now, rows_of (found_of p.1.now)))) (sym c.in-Some.is) ∙ (c.subcommand_given.ensures ∙ (parsed.1 ∙ ap (λ (a : App). subcommand_of a words) c.in_ok-commands.ensures)) in
     let own : rows_of (found_of c.in_ok-matches.matches) ≡ matches_of commands words = parsed.0 ∙ ap (λ (a : App). matches_of a words) c.in_ok-commands.ensures in
     record {
       name = c.in-Some.name.now;

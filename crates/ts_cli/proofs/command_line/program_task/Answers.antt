@@ -21,8 +21,10 @@ returns-in-Some-clause-lab g c asks =
     let words = map g.S.AsStr.text c.args.words.now in
     let parsed = (c.in_ok-matches.ensures.matches (ap is_simple c.in_ok-program.ensures ∙ program_is_simple)).1 in
     let pair : Some (c.in-Some.name.now, rows_of (found_of c.in-Some.inner.now)) ≡ subcommand_of program words =
-    ap (option_map (λ p. (p.0.now, rows_of (found_of p.1.now)))) (sym c.in-Some.is) ∙ (c.given.ensures ∙ (parsed ∙ ap (λ (a : App). subcommand_of a words) c.in_ok-program.ensures)) in
-    let name : Some c.in-Some.name.now ≡ Some (codes "lab") = ap (option_map (λ p. p.0)) pair ∙ (ap (λ (w : List Text). option_map (λ p. p.0) (subcommand_of program w)) asks.1 ∙ lab_is_given asks.0) in
+    ap (option_map (λ p. (p.0.now, rows_of (found_of p.1.now)))) (sym c.in-Some.is) ∙ (c.subcommand_given.ensures ∙ (parsed ∙ ap (λ (a : App). subcommand_of a words) c.in_ok-program.ensures)) in
+    let name : Some c.in-Some.name.now ≡ Some (codes "lab") = ap (option_map (λ p. p.0)) pair
+    ∙ (ap (λ (w : List Text). option_map (λ p. p.0) (subcommand_of program w)) asks.1
+    ∙ lab_is_given asks.0) in
     let done = c.task_named.ensures.lab (some_is name) in
     rw done tt
 
@@ -37,7 +39,7 @@ returns-in-Some-clause-asked g c =
     let words = map g.S.AsStr.text c.args.words.now in
     let parsed = (c.in_ok-matches.ensures.matches (ap is_simple c.in_ok-program.ensures ∙ program_is_simple)).1 in
     let pair : Some (c.in-Some.name.now, rows_of (found_of c.in-Some.inner.now)) ≡ subcommand_of program words =
-    ap (option_map (λ p. (p.0.now, rows_of (found_of p.1.now)))) (sym c.in-Some.is) ∙ (c.given.ensures ∙ (parsed ∙ ap (λ (a : App). subcommand_of a words) c.in_ok-program.ensures)) in
+    ap (option_map (λ p. (p.0.now, rows_of (found_of p.1.now)))) (sym c.in-Some.is) ∙ (c.subcommand_given.ensures ∙ (parsed ∙ ap (λ (a : App). subcommand_of a words) c.in_ok-program.ensures)) in
     IfOk-weaker c.task_named.result _ _ (λ task says. record {
       name = c.in-Some.name.now;
       rows = rows_of (found_of c.in-Some.inner.now);
@@ -50,7 +52,7 @@ returns-clause-lab g c asks =
     let words = map g.S.AsStr.text c.args.words.now in
     let parsed = (c.in_ok-matches.ensures.matches (ap is_simple c.in_ok-program.ensures ∙ program_is_simple)).1 in
     let none : None ≡ subcommand_of program words =
-    ap (option_map (λ p. (p.0.now, rows_of (found_of p.1.now)))) (sym c.in-None.is) ∙ (c.given.ensures ∙ (parsed ∙ ap (λ (a : App). subcommand_of a words) c.in_ok-program.ensures)) in
+    ap (option_map (λ p. (p.0.now, rows_of (found_of p.1.now)))) (sym c.in-None.is) ∙ (c.subcommand_given.ensures ∙ (parsed ∙ ap (λ (a : App). subcommand_of a words) c.in_ok-program.ensures)) in
     let bad : None ≡ Some (codes "lab") = ap (option_map (λ p. p.0)) none ∙ (ap (λ (w : List Text). option_map (λ p. p.0) (subcommand_of program w)) asks.1 ∙ lab_is_given asks.0) in
     absurd (none_some (codes "lab") bad)
   where

@@ -19,5 +19,5 @@ returns-in-Some-clause-asked g c =
     let words = map g.S.AsStr.text c.args.words.now in
     let parsed = (c.in_ok-matches.ensures.matches (ap is_simple c.in_ok-questions.ensures ∙ questions_are_simple)).1 in
     let pair : Some (c.in-Some.name.now, rows_of (found_of c.in-Some.inner.now)) ≡ subcommand_of questions words =
-    ap (option_map (λ p. (p.0.now, rows_of (found_of p.1.now)))) (sym c.in-Some.is) ∙ (c.given.ensures ∙ (parsed ∙ ap (λ (a : App). subcommand_of a words) c.in_ok-questions.ensures)) in
+    ap (option_map (λ p. (p.0.now, rows_of (found_of p.1.now)))) (sym c.in-Some.is) ∙ (c.subcommand_given.ensures ∙ (parsed ∙ ap (λ (a : App). subcommand_of a words) c.in_ok-questions.ensures)) in
     record { name = c.in-Some.name.now; rows = rows_of (found_of c.in-Some.inner.now); given = sym pair; says = c.in_ok-words-in-Some.ensures }

@@ -1,7 +1,7 @@
 use Rattle.std.proofs.Common.{◌≡◌, ◌++◌, length}
 use Rattle.std.specs.Prelude.{map}
-use Rattle.ts_constraint.specs.Directories.{form_in}
-use Rattle.ts_constraint.specs.Directory.{directory_forms}
+use Rattle.ts_constraint.specs.inside.Directories.{form_in}
+use Rattle.ts_constraint.specs.inside.Directory.{directory_forms}
 use Rattle.ts_constraint.specs.View.{bases_in}
 use Rattle.ts_constraint.proofs.directories.gather.Given as goal
 

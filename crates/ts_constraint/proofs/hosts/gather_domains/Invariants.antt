@@ -1,7 +1,7 @@
 use Rattle.std.proofs.Common.{◌≡◌, ◌++◌, length}
 use Rattle.std.specs.Prelude.{map}
-use Rattle.ts_constraint.specs.Ending.{octets}
-use Rattle.ts_constraint.specs.Hosts.{domain_endings}
+use Rattle.ts_constraint.specs.inside.Ending.{octets}
+use Rattle.ts_constraint.specs.inside.Hosts.{domain_endings}
 use Rattle.ts_constraint.specs.View.{bases_in}
 use Rattle.ts_constraint.proofs.hosts.gather_domains.Given as goal
 

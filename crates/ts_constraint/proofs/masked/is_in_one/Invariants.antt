@@ -1,5 +1,5 @@
 use Rattle.std.proofs.Common.{◌≡◌, length}
-use Rattle.ts_constraint.specs.Ranges.{is_in_one}
+use Rattle.ts_constraint.specs.inside.Ranges.{is_in_one}
 use Rattle.ts_constraint.proofs.masked.is_in_one.Given as goal
 
 abbrev pub invariant-loop-rest : goal.invariant-loop-rest

@@ -1,5 +1,5 @@
 use Rattle.std.proofs.Common.{◌≡◌, ◌*◌, ◌^◌, ◌<◌, drop}
-use Rattle.ts_constraint.specs.Ranges.{number, number_from}
+use Rattle.ts_constraint.specs.inside.Ranges.{number, number_from}
 use Rattle.ts_constraint.proofs.masked.number.Given as goal
 
 abbrev pub invariant-loop-octet : goal.invariant-loop-octet

@@ -8,7 +8,9 @@ returns-then-octets-size-clause-found c = λ address o a. other-length address c
 
 pub returns-clause-found : goal.returns-clause-found
 returns-clause-found c = λ address o a.
-    within-bits address c.args.octets.now c.split_at.result.0.now c.split_at.result.1.now c.args.size c.number.result c.number-mask.result o (λ i. omega (arith, c.type_inv.octets i)) a c.if-octets-size.false
+    within-bits address c.args.octets.now c.split_at.result.0.now c.split_at.result.1.now
+    c.args.size c.number.result c.number-mask.result o (λ i. omega (arith, c.type_inv.octets i)) a
+    c.if-octets-size.false
     c.split_at.ensures.front c.split_at.ensures.back c.number.ensures.value c.number-mask.ensures.value
 
 pub returns-clause-bound : goal.returns-clause-bound

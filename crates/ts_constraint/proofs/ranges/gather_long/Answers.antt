@@ -22,7 +22,9 @@ loop-subtree-preserved c =
     let i = c.loop-subtree.subtree-index in
     let x = c.subtree-item.result in
     let rest = bases_in (drop (i + 1) xs) in
-    ranges-more 16 c.loop-subtree.ranges.items c.push.new.self.items c.in-Some.range (general_in c.base.result) c.range_of.result (bases_in (drop i xs)) rest (bases_in xs) c.in_ok-push.ensures.items c.in-Some.is
+    ranges-more 16 c.loop-subtree.ranges.items c.push.new.self.items c.in-Some.range
+    (general_in c.base.result) c.range_of.result (bases_in (drop i xs)) rest
+    (bases_in xs) c.in_ok-push.ensures.items c.in-Some.is
     (next-base xs i x c.loop-subtree-test.true c.subtree-item.is ∙ ap (λ (b : GeneralName). b ∷ rest) (sym c.base.ensures)) c.range_of.ensures.found c.loop-subtree.invariant
 
 pub returns : goal.returns

@@ -26,7 +26,9 @@ loop-subtree-preserved c =
     let x = c.subtree-item.result in
     let rest = bases_in (drop (i + 1) xs) in
     others-more (bases_in c.loop-subtree.others.items) (bases_in c.push.new.self.items) (subtree_in x).base (bases_in (drop i xs)) rest (bases_in xs)
-    (ap bases_in c.in_ok-push.ensures.items ∙ map-append (λ (s : Subtree). (subtree_in s).base) c.loop-subtree.others.items (x ∷ [])) (next-base xs i x c.loop-subtree-test.true c.subtree-item.is) c.loop-subtree.invariant
+    (ap bases_in c.in_ok-push.ensures.items
+    ∙ map-append (λ (s : Subtree). (subtree_in s).base) c.loop-subtree.others.items (x ∷ []))
+    (next-base xs i x c.loop-subtree-test.true c.subtree-item.is) c.loop-subtree.invariant
 
 pub returns : goal.returns
 returns c =

@@ -3,8 +3,8 @@ use Rattle.std.specs.Prelude.{map}
 use Rattle.std.proofs.lemmas.List.{drop_all, map-append}
 use Rattle.ts_name.specs.General.{GeneralName}
 use Rattle.ts_name.specs.GeneralView.{general_in}
-use Rattle.ts_constraint.specs.declared.masked.Masked.{Masked}
-use Rattle.ts_constraint.specs.Quads.{widened}
+use Rattle.ts_constraint.specs.declared.masked.MaskedRange.{MaskedRange}
+use Rattle.ts_constraint.specs.inside.Quads.{as_masked}
 use Rattle.ts_constraint.specs.View.{bases_in}
 use Rattle.ts_constraint.proofs.RangeTables.{ranges-skip, ranges-more, ranges-all}
 use Rattle.ts_constraint.proofs.Tables.{next-base}
@@ -16,7 +16,7 @@ loop-subtree-preserved-in_default c =
     let i = c.loop-subtree.subtree-index in
     let x = c.subtree-item.result in
     let rest = bases_in (drop (i + 1) xs) in
-    ranges-skip 4 (map widened c.loop-subtree.ranges.items) (general_in c.base.result) c.range_of.result (bases_in (drop i xs)) rest (bases_in xs) c.in_default.is
+    ranges-skip 4 (map as_masked c.loop-subtree.ranges.items) (general_in c.base.result) c.range_of.result (bases_in (drop i xs)) rest (bases_in xs) c.in_default.is
     (next-base xs i x c.loop-subtree-test.true c.subtree-item.is ∙ ap (λ (b : GeneralName). b ∷ rest) (sym c.base.ensures)) c.range_of.ensures.found c.loop-subtree.invariant
 
 pub loop-subtree-preserved : goal.loop-subtree-preserved
@@ -25,11 +25,16 @@ loop-subtree-preserved c =
     let i = c.loop-subtree.subtree-index in
     let x = c.subtree-item.result in
     let rest = bases_in (drop (i + 1) xs) in
-    ranges-more 4 (map widened c.loop-subtree.ranges.items) (map widened c.push.new.self.items) c.in-Some.range (general_in c.base.result) c.range_of.result (bases_in (drop i xs)) rest (bases_in xs) (ap (map widened) c.in_ok-push.ensures.items ∙ (map-append widened c.loop-subtree.ranges.items (c.narrowed.result ∷ []) ∙ ap (λ (r : Masked). map widened c.loop-subtree.ranges.items ++ r ∷ []) c.narrowed.ensures)) c.in-Some.is
+    ranges-more 4 (map as_masked c.loop-subtree.ranges.items) (map as_masked c.push.new.self.items)
+    c.in-Some.range (general_in c.base.result) c.range_of.result (bases_in (drop i xs)) rest
+    (bases_in xs) (ap (map as_masked) c.in_ok-push.ensures.items
+    ∙ (map-append as_masked c.loop-subtree.ranges.items (c.narrowed.result ∷ [])
+    ∙ ap (λ (r : MaskedRange). map as_masked c.loop-subtree.ranges.items ++ r ∷ [])
+    c.narrowed.ensures)) c.in-Some.is
     (next-base xs i x c.loop-subtree-test.true c.subtree-item.is ∙ ap (λ (b : GeneralName). b ∷ rest) (sym c.base.ensures)) c.range_of.ensures.found c.loop-subtree.invariant
 
 pub returns : goal.returns
 returns c =
     let xs = c.args.subtrees.now in
     let i = c.loop-subtree.subtree-index in
-    ranges-all 4 (map widened c.loop-subtree.ranges.items) (bases_in (drop i xs)) (bases_in xs) (ap bases_in (drop_all i xs c.loop-subtree-test.false)) c.loop-subtree.invariant
+    ranges-all 4 (map as_masked c.loop-subtree.ranges.items) (bases_in (drop i xs)) (bases_in xs) (ap bases_in (drop_all i xs c.loop-subtree-test.false)) c.loop-subtree.invariant

@@ -1,7 +1,7 @@
 use Rattle.std.proofs.Common.{refl, ap, sym, ◌∙◌}
 use Rattle.ts_der.specs.View.{now}
 use Rattle.ts_shape.specs.Fields.{integer_at}
-use Rattle.ts_crl.specs.Findings.{joined}
+use Rattle.ts_crl.specs.inside.Findings.{join}
 use Rattle.ts_crl.specs.FindingsView.{findings_in}
 use Rattle.ts_crl.specs.List.{LocatedEntry}
 use Rattle.ts_crl.proofs.Joining.{entry-read, entry-found-by}
@@ -16,5 +16,5 @@ returns c =
       entry,
       entry-read (now c.args.element) serial date noted.0 c.next_integer.new.fields c.next_time.new.fields c.note_extensions_if_any.new.fields
           (ap integer_at (sym c.reader-fields.ensures) ∙ c.in_ok-next_integer.ensures) c.in_ok-next_time.ensures noted.1 c.in_ok-end.ensures.exact,
-      noted.2 ∙ ap (joined (findings_in c.args.findings.now)) (sym (entry-found-by entry noted.0 refl)),
+      noted.2 ∙ ap (join (findings_in c.args.findings.now)) (sym (entry-found-by entry noted.0 refl)),
     )

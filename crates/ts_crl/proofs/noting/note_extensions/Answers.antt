@@ -13,15 +13,24 @@ use Rattle.ts_crl.proofs.Joining.{many-fronted, extension-joined, no-extension-j
 use Rattle.ts_crl.proofs.noting.note_extensions.Goals as goal
 
 pub loop-rest-init : goal.loop-rest-init
-loop-rest-init c =
-    ([], rw c.reader-rest.ensures (many-fronted (many (each located_in) (inside (now c.args.element)))), no-extension-joined (findings_in c.args.findings.now), refl, rw c.reader-rest.ensures (omega arith))
+loop-rest-init c = (
+  [],
+  rw c.reader-rest.ensures
+      (many-fronted (many (each located_in) (inside (now c.args.element)))),
+  no-extension-joined
+      (findings_in c.args.findings.now),
+  refl,
+  rw c.reader-rest.ensures (omega arith),
+)
 
 pub returns-in_err-extension : goal.returns-in_err-extension
 unfolding some_of
 returns-in_err-extension c =
     let p = err_from_is_err_and c.from_residual.result c.from_residual.ensures.1 in
     let i = c.loop-rest.invariant in
-    let total = breaks_off (each located_in) (each-consumes located_in) i.0 c.loop-rest.rest c.in_err-extension.field-0.0 (many (each located_in) (inside (now c.args.element))) (sym c.is_at_end.ensures ∙ c.loop-rest-test.true) c.in_err-extension.ensures i.1 in
+    let total = breaks_off (each located_in) (each-consumes located_in) i.0 c.loop-rest.rest
+    c.in_err-extension.field-0.0 (many (each located_in) (inside (now c.args.element)))
+    (sym c.is_at_end.ensures ∙ c.loop-rest-test.true) c.in_err-extension.ensures i.1 in
     rw (p.1, p.2, total) refl
 
 pub loop-rest-smaller : goal.loop-rest-smaller
@@ -33,8 +42,12 @@ loop-rest-preserved c =
     let x = located_as c.in_ok-extension.extension in
     let fewer = each-consumes located_in c.loop-rest.rest x c.next_extension.new.rest c.in_ok-extension.ensures in (
       i.0 ++ x ∷ [],
-      goes_on (each located_in) (each-consumes located_in) i.0 c.loop-rest.rest x c.next_extension.new.rest (many (each located_in) (inside (now c.args.element))) (sym c.is_at_end.ensures ∙ c.loop-rest-test.true) c.in_ok-extension.ensures i.1,
-      extension-joined i.0 x (findings_in c.args.findings.now) (findings_in c.loop-rest.findings) (findings_in c.note.new.self) i.2 c.note.ensures.old_version c.note.ensures.repeated c.note.ensures.value c.note.ensures.unprocessed c.note.ensures.issuer,
+      goes_on (each located_in) (each-consumes located_in) i.0 c.loop-rest.rest x
+          c.next_extension.new.rest (many (each located_in) (inside (now c.args.element)))
+          (sym c.is_at_end.ensures ∙ c.loop-rest-test.true) c.in_ok-extension.ensures i.1,
+      extension-joined i.0 x (findings_in c.args.findings.now) (findings_in c.loop-rest.findings)
+          (findings_in c.note.new.self) i.2 c.note.ensures.old_version c.note.ensures.repeated
+          c.note.ensures.value c.note.ensures.unprocessed c.note.ensures.issuer,
       rw length-append (ap (λ n. n + 1) i.3),
       omega (arith, fewer, i.4),
     )

@@ -5,7 +5,7 @@ use Rattle.ts_der.specs.View.{now}
 use Rattle.ts_der.proofs.Many.{with_front}
 use Rattle.ts_shape.specs.Items.{each}
 use Rattle.ts_ext.specs.Extension.{Located, located_in}
-use Rattle.ts_crl.specs.Findings.{joined, found_among}
+use Rattle.ts_crl.specs.inside.Findings.{join, found_among}
 use Rattle.ts_crl.specs.FindingsView.{findings_in}
 use Rattle.ts_crl.proofs.noting.note_extensions.Given as goal
 
@@ -13,7 +13,7 @@ use Rattle.ts_crl.proofs.noting.note_extensions.Given as goal
 abbrev pub invariant-loop-rest : goal.invariant-loop-rest
 invariant-loop-rest l =
     (front : List Located) × (with_front front (many (each located_in) l.rest) ≡ many (each located_in) (inside (now l.element)))
-    × (findings_in l.findings ≡ joined (findings_in l.fn.findings) (found_among front)) × (l.count ≡ length front) × (l.count + length l.rest.rest ≤ length l.element.content.now)
+    × (findings_in l.findings ≡ join (findings_in l.fn.findings) (found_among front)) × (l.count ≡ length front) × (l.count + length l.rest.rest ≤ length l.element.content.now)
 
 abbrev pub decreases-loop-rest : goal.decreases-loop-rest
 decreases-loop-rest l = length l.rest.rest

@@ -1,7 +1,7 @@
 use Rattle.std.proofs.Common.{Option, arith, sym, subst}
 use Rattle.ts_shape.specs.declared.fault.CertFault.{CertFault}
 use Rattle.ts_digest.specs.Message.{IsDigestOf}
-use Rattle.ts_crl.specs.Kept.{HavePlace, WasRead}
+use Rattle.ts_crl.specs.inside.Kept.{HavePlace, WasRead}
 use Rattle.ts_crl.specs.List.{CertificateList}
 use Rattle.ts_crl.specs.ListView.{located_list_in}
 use Rattle.ts_crl.proofs.Lending.{quiet, read-list}

@@ -1,5 +1,5 @@
 use Rattle.std.proofs.Common.{ℕ, List, subst}
-use Rattle.ts_crl.specs.Kept.{Checks}
+use Rattle.ts_crl.specs.inside.Kept.{Checks}
 use Rattle.ts_crl.proofs.owned.check_shared.Goals as goal
 
 pub returns : goal.returns

@@ -4,9 +4,11 @@ use Rattle.ts_shape.specs.Items.{items_at}
 use Rattle.ts_ext.specs.declared.known.Holder.TheVariants.{List as ListHolder}
 use Rattle.ts_ext.specs.Extension.{located_in}
 use Rattle.ts_ext.specs.ValueRules.{values_fault}
-use Rattle.ts_crl.specs.EntryView.{listed_in}
+use Rattle.ts_crl.specs.EntryView.{located_items_in}
 use Rattle.ts_crl.specs.Rules.{located_as_ruled}
 use Rattle.ts_crl.proofs.rules.list_values_fault.Given as goal
 
 abbrev pub invariant-loop-extension : goal.invariant-loop-extension
-invariant-loop-extension l = values_fault ListHolder (map located_as_ruled (listed_in l.fn.list)) ≡ values_fault ListHolder (map located_as_ruled (items_at located_in l.extension-iterator.rest))
+invariant-loop-extension l =
+    values_fault ListHolder (map located_as_ruled (located_items_in l.fn.list)) ≡ values_fault
+    ListHolder (map located_as_ruled (items_at located_in l.extension-iterator.rest))

@@ -21,7 +21,7 @@ returns g c =
     let s = c.in-Ok.s.octets.now in
     let key = c.in-Some.ensures.found in
     let by = signature_by_parts q c.args.hash c.args.public_key.now c.args.signed.now.octets.now
-    c.args.signature.now r s c.in-Some.q c.hashed.result oct key.0 key.1 c.hashed.ensures
+    c.args.signature.now r s c.in-Some.q c.hash_number.result oct key.0 key.1 c.hash_number.ensures
     c.in-Ok.ensures in (
       λ h. by.0 (c.is_integer_signature.ensures.0 h),
       λ i. c.is_integer_signature.ensures.1 (by.1 i),

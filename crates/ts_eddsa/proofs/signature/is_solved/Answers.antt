@@ -1,7 +1,7 @@
 use Rattle.std.proofs.Common.{◌≡◌, ap, ◌∙◌}
 use Rattle.ts_curve.specs.Four.{number4}
 use Rattle.ts_eddsa.specs.Points.{base, multiple, sum}
-use Rattle.ts_eddsa.specs.Addend.{addend_of, sum_by}
+use Rattle.ts_eddsa.specs.inside.Addend.{addend_of, sum_by}
 use Rattle.ts_eddsa.specs.Tests.{are_equal}
 use Rattle.ts_eddsa.proofs.Multiple.{sum_is}
 use Rattle.ts_eddsa.proofs.signature.is_solved.Goals as goal

@@ -26,7 +26,9 @@ unfolding some_of
 returns-in_err-element-clause-shape c =
     let p = err_from_is_err_and c.from_residual.result c.from_residual.ensures.1 in
     let here = c.loop-rest.rest in
-    let total = broken-off (inside (now c.args.list)) here c.in_err-element.field-0.0 c.loop-rest.invariant.0 (sym c.is_at_end.ensures ∙ c.loop-rest-test.true) (no-element here c.in_err-element.field-0.0 c.in_err-element.ensures.exact.0) in
+    let total = broken-off (inside (now c.args.list)) here c.in_err-element.field-0.0
+    c.loop-rest.invariant.0 (sym c.is_at_end.ensures ∙ c.loop-rest-test.true)
+    (no-element here c.in_err-element.field-0.0 c.in_err-element.ensures.exact.0) in
     rw (p.1, p.2, total) refl
 
 pub returns-in_err-extension-in-None-clause-shape : goal.returns-in_err-extension-in-None-clause-shape
@@ -58,14 +60,18 @@ loop-rest-preserved-in-Some c =
     let had = c.loop-rest.found.fault in
     let found = c.with_key-found.ensures in
     let named = λ (P : List ℕ → Type 0). subst P (sym x.2) in
-    let one : Finds c.args.holder x.0 had c.with_key-found.result.fault c.loop-rest.found.have_ends_of_their_own c.with_key-found.result.have_ends_of_their_own c.loop-rest.ends c.with_key-found.new.ends =
+    let one : Finds c.args.holder x.0 had c.with_key-found.result.fault
+    c.loop-rest.found.have_ends_of_their_own c.with_key-found.result.have_ends_of_their_own
+    c.loop-rest.ends c.with_key-found.new.ends =
     record {
       fault = found.fault ∙ (sym (alone had) ∙ ap (λ (o : Option CertFault). had or_else o) (sym x.3));
       before = found.before;
       new = λ keys have own. named (λ (k : List ℕ). is_among k keys ≡ false) (found.new keys have own);
       met = λ keys have. named (λ (k : List ℕ). HaveEnds (k ∷ keys) c.with_key-found.new.ends) (found.met keys have);
     } in
-    walked-on c.args.holder (inside (now c.args.list)) here c.element.new.self x.0 had c.with_key-found.result.fault c.loop-rest.found.have_ends_of_their_own c.with_key-found.result.have_ends_of_their_own c.loop-rest.ends c.with_key-found.new.ends
+    walked-on c.args.holder (inside (now c.args.list)) here c.element.new.self x.0 had
+    c.with_key-found.result.fault c.loop-rest.found.have_ends_of_their_own
+    c.with_key-found.result.have_ends_of_their_own c.loop-rest.ends c.with_key-found.new.ends
     (sym c.is_at_end.ensures ∙ c.loop-rest-test.true) read one c.loop-rest.invariant
 
 pub loop-rest-preserved : goal.loop-rest-preserved
@@ -74,9 +80,13 @@ loop-rest-preserved c =
     let x = located_as c.in_ok-extension-in-None.extension in
     let found = c.with-found.ensures in
     let read = stands here (now c.in_ok-element.element) c.element.new.self x c.in_ok-element.ensures.exact c.in_ok-extension-in-None.ensures in
-    let one : Finds c.args.holder x c.loop-rest.found.fault c.with-found.result.fault c.loop-rest.found.have_ends_of_their_own c.with-found.result.have_ends_of_their_own c.loop-rest.ends c.with-found.new.ends =
+    let one : Finds c.args.holder x c.loop-rest.found.fault c.with-found.result.fault
+    c.loop-rest.found.have_ends_of_their_own c.with-found.result.have_ends_of_their_own
+    c.loop-rest.ends c.with-found.new.ends =
     record { fault = found.fault; before = found.before; new = found.new; met = found.met } in
-    walked-on c.args.holder (inside (now c.args.list)) here c.element.new.self x c.loop-rest.found.fault c.with-found.result.fault c.loop-rest.found.have_ends_of_their_own c.with-found.result.have_ends_of_their_own c.loop-rest.ends c.with-found.new.ends
+    walked-on c.args.holder (inside (now c.args.list)) here c.element.new.self x
+    c.loop-rest.found.fault c.with-found.result.fault c.loop-rest.found.have_ends_of_their_own
+    c.with-found.result.have_ends_of_their_own c.loop-rest.ends c.with-found.new.ends
     (sym c.is_at_end.ensures ∙ c.loop-rest-test.true) read one c.loop-rest.invariant
 
 pub returns-then-is_empty-clause-shape : goal.returns-then-is_empty-clause-shape

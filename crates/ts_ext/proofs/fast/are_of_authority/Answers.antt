@@ -17,5 +17,7 @@ returns c = λ e.
     let behind = take_rest content 3 in
     let three : length (drop 3 content) ≡ 3 = omega (arith, ap length behind, c.in-len3.len_at_least, c.in-len3.len_below) in (
       _,
-      bounded-authority content three c.if-tag-ne-BOOLEAN.false c.if-length-ne1.false c.if-ca.false (rw behind at c.if-integer-ne-INTEGER.false) (rw behind at c.if-one-ne1.false) (rw behind at c.if-number-ge128.false),
+      bounded-authority content three c.if-tag-ne-BOOLEAN.false c.if-length-ne1.false c.if-ca.false
+          (rw behind at c.if-integer-ne-INTEGER.false) (rw behind at c.if-one-ne1.false)
+          (rw behind at c.if-number-ge128.false),
     )

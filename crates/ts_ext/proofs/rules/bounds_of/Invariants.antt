@@ -11,4 +11,7 @@ use Rattle.ts_ext.proofs.rules.bounds_of.Given as goal
 abbrev pub invariant-loop-subtree : goal.invariant-loop-subtree
 invariant-loop-subtree l =
     (all_of is_unbounded (option_map subtrees_in l.fn.subtrees) ≡ (l.bounds.are_unbounded && list_all is_unbounded (items_at (of_tag 0x30 subtree_of) l.subtree-iterator.rest)))
-    × (all_of (λ s. has_range_length s.base) (option_map subtrees_in l.fn.subtrees) ≡ (l.bounds.have_range_length && list_all (λ s. has_range_length s.base) (items_at (of_tag 0x30 subtree_of) l.subtree-iterator.rest)))
+    × (all_of (λ s. has_range_length s.base) (option_map subtrees_in l.fn.subtrees) ≡
+    (l.bounds.have_range_length
+    && list_all (λ s. has_range_length s.base)
+    (items_at (of_tag 0x30 subtree_of) l.subtree-iterator.rest)))

@@ -19,8 +19,12 @@ returns-in_err-push_member-clause-unsaid c =
 
 pub loop-name-preserved : goal.loop-name-preserved
 loop-name-preserved c =
-    next_member _ (map pair_in c.loop-name.pairs.items) (map pair_in c.push_member.new.pairs.items) (string_bytes c.in-Some.name.now) c.as_str.result.now (view c.in-Some.value.now) (members_view c.next.new.self)
-    (c.loop-name.invariant ∙ ap (λ es. both (Some (map pair_in c.loop-name.pairs.items)) (members_said (members_view es))) c.in-Some.ensures.steps) c.as_str.ensures.value c.in_ok-push_member.ensures.said
+    next_member _ (map pair_in c.loop-name.pairs.items) (map pair_in c.push_member.new.pairs.items)
+    (string_bytes c.in-Some.name.now) c.as_str.result.now (view c.in-Some.value.now)
+    (members_view c.next.new.self)
+    (c.loop-name.invariant
+    ∙ ap (λ es. both (Some (map pair_in c.loop-name.pairs.items)) (members_said (members_view es)))
+    c.in-Some.ensures.steps) c.as_str.ensures.value c.in_ok-push_member.ensures.said
 
 pub returns : goal.returns
 returns c =

@@ -3,8 +3,8 @@ use Rattle.std.proofs.Common.{rules, ◌≡◌, true, false, map, string_bytes, 
 use Rattle.serde_json.specs.Data.{null, boolean, number, object, string, array}
 use Rattle.serde_json.specs.View.{items_view, members_view, number_view, view}
 use Rattle.serde_json.specs.declared.value.Value.{the_lemmas}
-use Rattle.ts_form.specs.Pairs.{Named, pair_in}
-use Rattle.ts_form.specs.Said.{IsUnsaid, Said, items_said}
+use Rattle.ts_form.specs.Pairs.{NamedValue, pair_in}
+use Rattle.ts_form.specs.Said.{IsUnsaid, AppendsPairs, items_said}
 use Rattle.ts_form.proofs.Saying.{listed, said_false, said_null, said_number, said_text, said_true, unsaid_number, unsaid_object}
 use Rattle.ts_form.proofs.json.push_member.Goals as goal
 
@@ -39,11 +39,14 @@ returns-in-Array c =
     let items = c.deref.result.now in
     let seen : view c.args.value.now ≡ array (items_view items) = search (rules, the_lemmas) in
     let same = listed c.args.name.now (view c.args.value.now) (items_view items) seen in
-    let owes : OnOk c.push_items.result (Said (items_said c.args.name.now (items_view items)) (map pair_in c.args.pairs.now.items) (map pair_in c.push_items.new.pairs.items)) = c.push_items.ensures.said in
+    let owes : OnOk c.push_items.result
+    (AppendsPairs (items_said c.args.name.now (items_view items))
+    (map pair_in c.args.pairs.now.items) (map pair_in c.push_items.new.pairs.items)) =
+    c.push_items.ensures.said in
     let not : IfErr c.push_items.result (IsUnsaid (items_said c.args.name.now (items_view items))) = c.push_items.ensures.unsaid in
     record {
-      said = subst (λ (s : Option (List Named)). OnOk c.push_items.result (Said s (map pair_in c.args.pairs.now.items) (map pair_in c.push_items.new.pairs.items))) same owes;
-      unsaid = subst (λ (s : Option (List Named)). IfErr c.push_items.result (IsUnsaid s)) same not;
+      said = subst (λ (s : Option (List NamedValue)). OnOk c.push_items.result (AppendsPairs s (map pair_in c.args.pairs.now.items) (map pair_in c.push_items.new.pairs.items))) same owes;
+      unsaid = subst (λ (s : Option (List NamedValue)). IfErr c.push_items.result (IsUnsaid s)) same not;
     }
 
 pub returns-in_default-clause-unsaid : goal.returns-in_default-clause-unsaid

@@ -17,4 +17,6 @@ returns-in_ok-change-in-Ok-clause-done c = λ new e.
     let kept = kept_is c.octets-octets.result.now c.in-Ok.crl Memory (crl_fault c.octets-octets.result.now) c.in-Ok.ensures.kept c.in-Ok.ensures.refused in
     let octets = kept ∙ c.octets-octets.ensures in
     let id = c.digest.ensures ∙ ap sha256 (c.as_slice.ensures ∙ c.octets-octets.ensures) in
-    loaded c.args.id c.args.crl.now _ (crl_in c.view.result) c.in_ok-change-in-Ok.change c.args.tables.now new (λ i. record { id = id i; crl = octets i }) (ap crl_of (sym octets) ∙ c.view.ensures.exact) c.in_ok-change-in-Ok.ensures e
+    loaded c.args.id c.args.crl.now _ (crl_in c.view.result) c.in_ok-change-in-Ok.change
+    c.args.tables.now new (λ i. record { id = id i; crl = octets i })
+    (ap crl_of (sym octets) ∙ c.view.ensures.exact) c.in_ok-change-in-Ok.ensures e

@@ -7,8 +7,13 @@ use Rattle.ts_history.proofs.taken.taken_of.Goals as goal
 
 pub returns-in-AddAnchor-clause-done : goal.returns-in-AddAnchor-clause-done
 returns-in-AddAnchor-clause-done c =
-    IfOk-weaker c.anchor_taken.result _ _ (λ taken done. λ (new : Tables) e. done c.args.tables.now new (subst (λ (d : Command). change_by d c.args.tables.now ≡ Ok new) c.in-AddAnchor.is e)) c.anchor_taken.ensures.done
+    IfOk-weaker c.anchor_taken.result _ _
+    (λ taken done. λ (new : Tables) e. done c.args.tables.now new
+    (subst (λ (d : Command). change_by d c.args.tables.now ≡ Ok new) c.in-AddAnchor.is e))
+    c.anchor_taken.ensures.done
 
 pub returns-in-DropCrl-clause-done : goal.returns-in-DropCrl-clause-done
 returns-in-DropCrl-clause-done c =
-    drop_taken c.other_taken-in-DropCrl.result c.args.command.now c.args.tables.now c.in-DropCrl.id c.in-DropCrl.crl c.crl_removal.result c.other_taken-in-DropCrl.ensures c.in-DropCrl.is c.crl_removal.ensures
+    drop_taken c.other_taken-in-DropCrl.result c.args.command.now c.args.tables.now c.in-DropCrl.id
+    c.in-DropCrl.crl c.crl_removal.result c.other_taken-in-DropCrl.ensures c.in-DropCrl.is
+    c.crl_removal.ensures

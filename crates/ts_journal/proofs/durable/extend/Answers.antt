@@ -18,4 +18,7 @@ returns-clause-moments g c =
 pub returns-clause-opened : goal.returns-clause-opened
 returns-clause-opened g c =
     let state = g.D.Disk.state in
-    on_ok_weaker c.put-2.result (opened c.args.end c.args.text.now (state c.args.disk.now).read (state c.put.new.disk).read (state c.put-2.new.disk).read c.requires.closed c.in_ok-put.ensures.written) c.put-2.ensures.written
+    on_ok_weaker c.put-2.result
+    (opened c.args.end c.args.text.now (state c.args.disk.now).read (state c.put.new.disk).read
+    (state c.put-2.new.disk).read c.requires.closed c.in_ok-put.ensures.written)
+    c.put-2.ensures.written

@@ -1,5 +1,5 @@
 use Rattle.std.proofs.Common.{length, ◌∙◌, ap, subst, sym}
-use Rattle.ts_disk.specs.Disk.{written}
+use Rattle.ts_disk.specs.Disk.{overwrite}
 use Rattle.ts_journal.specs.Images.{Begins}
 use Rattle.ts_journal.proofs.Rewrites.{on_ok, begins, head_writes, rest_writes, syncs}
 use Rattle.ts_journal.proofs.rewrite.begin.Goals as goal
@@ -27,5 +27,7 @@ returns-clause-moments g c =
 pub returns-clause-begun : goal.returns-clause-begun
 returns-clause-begun g c =
     let state = g.D.Disk.state in
-    on_ok c.sync.result (subst (Begins c.args.octets.now c.args.text.now) (sym (c.sync.ensures.same ∙ c.in_ok-write_at-2.ensures.written ∙ ap (λ image. written image 25 c.args.text.now) c.in_ok-write_at.ensures.written))
+    on_ok c.sync.result (subst (Begins c.args.octets.now c.args.text.now)
+    (sym (c.sync.ensures.same ∙ c.in_ok-write_at-2.ensures.written
+    ∙ ap (λ image. overwrite image 25 c.args.text.now) c.in_ok-write_at.ensures.written))
     (begins c.args.octets.now c.args.text.now (state c.args.disk.now).read c.requires.length c.requires.shut))

@@ -1,6 +1,6 @@
 -- The scanner has answered what the reader has given, in pieces that the buffer holds.
 use Rattle.std.proofs.Common.{◌≡◌, ◌+◌, ◌*◌, ◌≤◌, length}
-use Rattle.ts_lab.specs.Scanner.{IsScanOf}
+use Rattle.ts_lab.specs.inside.Scanner.{IsScanOf}
 use Rattle.ts_lab.proofs.stream.first_wrong_line.Given as goal
 
 abbrev pub invariant-loop-read : goal.invariant-loop-read

@@ -11,7 +11,12 @@ loop-row-preserved c =
     elim c.if-not-is_among.branch [
       | then-not-is_among+in_ok-push w ↦
           let out : c.is_among.result ≡ false = w.if-not-is_among.true in
-          kept_more c.args.others.now c.args.rows.now c.loop-row.row-index c.row-item.result (omega arith) c.row-item.is c.loop-row.kept.items c.if-not-is_among.kept.items w.as_slice-then-not-is_among.result c.loop-row.invariant (test ∙ out) w.as_slice-then-not-is_among.ensures.value (ap (λ (v : Vec (Bor (List ℕ)) Global). v.items) w.kept-is ∙ w.in_ok-push.ensures.items)
+          kept_more c.args.others.now c.args.rows.now c.loop-row.row-index c.row-item.result
+          (omega arith) c.row-item.is c.loop-row.kept.items c.if-not-is_among.kept.items
+          w.as_slice-then-not-is_among.result c.loop-row.invariant
+          (test ∙ out) w.as_slice-then-not-is_among.ensures.value
+          (ap (λ (v : Vec (Bor (List ℕ)) Global). v.items) w.kept-is
+          ∙ w.in_ok-push.ensures.items)
       | else-not-is_among w ↦
           let in' : c.is_among.result ≡ true = w.if-not-is_among.false in
           ap (λ (v : Vec (Bor (List ℕ)) Global). map (λ (r : Bor (List ℕ)). r.now) v.items) w.kept-is

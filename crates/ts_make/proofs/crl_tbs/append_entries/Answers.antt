@@ -1,5 +1,5 @@
 use Rattle.std.proofs.lemmas.Result.{err_from_is_err_and}
-use Rattle.ts_make.specs.TimeView.{time_octets}
+use Rattle.ts_make.specs.inside.TimeView.{time_octets}
 use Rattle.ts_make.specs.CrlMade.{entry_octets}
 use Rattle.ts_make.proofs.TooLong.{longer, pieces-front}
 use Rattle.ts_make.proofs.crl_tbs.append_entries.Goals as goal

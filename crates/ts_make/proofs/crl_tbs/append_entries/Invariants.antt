@@ -1,6 +1,6 @@
 use Rattle.std.proofs.Common.{◌≡◌, ◌++◌, take}
 use Rattle.std.specs.List.{flat_map}
-use Rattle.ts_make.specs.TimeView.{time_octets}
+use Rattle.ts_make.specs.inside.TimeView.{time_octets}
 use Rattle.ts_make.specs.CrlMade.{entry_octets}
 use Rattle.ts_make.specs.CrlMaking.{AreSerials}
 use Rattle.ts_make.proofs.crl_tbs.append_entries.Given as goal

@@ -1,7 +1,7 @@
 use Rattle.std.proofs.Common.{true}
 use Rattle.std.proofs.lemmas.Result.{err_from_is_err_and}
 use Rattle.ts_make.specs.declared.kind.Kind.TheVariants as kind
-use Rattle.ts_make.specs.Extensions.{extension_octets, constraints_content, policy_constraints_content, alone}
+use Rattle.ts_make.specs.Extensions.{extension_octets, constraints_content, policy_constraints_content, part_extensions}
 use Rattle.ts_make.proofs.Pieces.{nested}
 use Rattle.ts_make.proofs.TooLong.{longer, sequence-within}
 use Rattle.ts_make.proofs.extensions.append_kind.Goals as goal
@@ -21,14 +21,14 @@ returns-in_err-content-in-PolicyConstraints c =
 pub returns-in-BasicConstraints : goal.returns-in-BasicConstraints
 returns-in-BasicConstraints c =
     let h = rw c.in-BasicConstraints.is at c.append_each.ensures in
-    rw (c.in-BasicConstraints.is, nested extension_octets (alone kind.BasicConstraints) c.args.parts.now) h
+    rw (c.in-BasicConstraints.is, nested extension_octets (part_extensions kind.BasicConstraints) c.args.parts.now) h
 
 pub returns-in-InhibitAnyPolicy : goal.returns-in-InhibitAnyPolicy
 returns-in-InhibitAnyPolicy c =
     let h = rw c.in-InhibitAnyPolicy.is at c.append_each-in-InhibitAnyPolicy.ensures in
-    rw (c.in-InhibitAnyPolicy.is, nested extension_octets (alone kind.InhibitAnyPolicy) c.args.parts.now) h
+    rw (c.in-InhibitAnyPolicy.is, nested extension_octets (part_extensions kind.InhibitAnyPolicy) c.args.parts.now) h
 
 pub returns-in-Critical : goal.returns-in-Critical
 returns-in-Critical c =
     let h = rw c.in-Critical.is at c.append_each-in-Critical.ensures in
-    rw (c.in-Critical.is, nested extension_octets (alone kind.Critical) c.args.parts.now) h
+    rw (c.in-Critical.is, nested extension_octets (part_extensions kind.Critical) c.args.parts.now) h

@@ -3,7 +3,14 @@ use Rattle.ts_make.proofs.CrlRules.{answers-made, answers-described, answers-ref
 use Rattle.ts_make.proofs.list.make_crl.Goals as goal
 
 pub returns-clause-made : goal.returns-clause-made
-returns-clause-made c = (_, _, c.of.ensures, c.of-2.ensures, answers-made c.write_whole_crl.result _ _ c.args.text.now c.write_whole_crl.ensures.sayable c.of.ensures c.of-2.ensures c.write_whole_crl.ensures.exact)
+returns-clause-made c = (
+  _,
+  _,
+  c.of.ensures,
+  c.of-2.ensures,
+  answers-made c.write_whole_crl.result _ _ c.args.text.now
+      c.write_whole_crl.ensures.sayable c.of.ensures c.of-2.ensures c.write_whole_crl.ensures.exact,
+)
 
 pub returns-clause-described : goal.returns-clause-described
 returns-clause-described c = answers-described c.write_whole_crl.result _ _ c.args.text.now c.write_whole_crl.ensures.sayable c.of.ensures c.of-2.ensures c.write_whole_crl.ensures.exact

@@ -4,7 +4,7 @@ use Rattle.ts_der.specs.Element.{encode}
 use Rattle.ts_sig.specs.StandIn.{algorithm_identifier}
 use Rattle.ts_cert.specs.declared.version.Version.TheVariants.{V3}
 use Rattle.ts_cert.specs.Encoding.{version_octets}
-use Rattle.ts_make.specs.TimeView.{time_octets}
+use Rattle.ts_make.specs.inside.TimeView.{time_octets}
 use Rattle.ts_make.specs.Serial.{serial_content}
 use Rattle.ts_make.specs.Made.{name_octets, key_octets, tbs_content}
 use Rattle.ts_make.specs.Extensions.{described_extensions, field_octets}

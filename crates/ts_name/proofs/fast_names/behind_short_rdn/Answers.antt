@@ -24,4 +24,6 @@ returns-clause-stands c =
     rw (c.split_at.ensures.back, behind) x
 
 pub returns-clause-ascii : goal.returns-clause-ascii
-returns-clause-ascii c = rw (c.split_at.ensures.back, take_rest c.args.octets.now 11) (ascii-drop (drop 11 c.args.octets.now) (get_or c.args.octets.now 10 0) (ascii-drop c.args.octets.now 11 c.requires))
+returns-clause-ascii c = rw (c.split_at.ensures.back, take_rest c.args.octets.now 11)
+    (ascii-drop (drop 11 c.args.octets.now) (get_or c.args.octets.now 10 0)
+    (ascii-drop c.args.octets.now 11 c.requires))

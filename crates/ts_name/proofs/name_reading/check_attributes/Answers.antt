@@ -19,7 +19,9 @@ loop-rest-preserved c =
     let i = c.loop-rest.invariant in
     let x = (attr_of c.in_ok-next_attribute.field-0) in (
       i.0 ++ x ∷ [],
-      goes_on attribute_at (within-consumes 0x30 attribute_of) i.0 c.loop-rest.rest x c.next_attribute.new.rest (many attribute_at (inside (now c.args.set))) (sym c.is_at_end.ensures ∙ c.loop-rest-test.true) c.in_ok-next_attribute.ensures i.1,
+      goes_on attribute_at (within-consumes 0x30 attribute_of) i.0 c.loop-rest.rest x
+          c.next_attribute.new.rest (many attribute_at (inside (now c.args.set)))
+          (sym c.is_at_end.ensures ∙ c.loop-rest-test.true) c.in_ok-next_attribute.ensures i.1,
       (λ first. absurd (false≢true first)),
       λ single. (x, ap (λ (front : List Attr). front ++ x ∷ []) (i.2 single)),
     )
@@ -28,7 +30,9 @@ pub returns-in_err-next_attribute-clause-fault : goal.returns-in_err-next_attrib
 returns-in_err-next_attribute-clause-fault c =
     let p = err_from_is_err_and c.from_residual.result c.from_residual.ensures.1 in
     let i = c.loop-rest.invariant in
-    let total = breaks_off attribute_at (within-consumes 0x30 attribute_of) i.0 c.loop-rest.rest c.in_err-next_attribute.field-0.0 (many attribute_at (inside (now c.args.set))) (sym c.is_at_end.ensures ∙ c.loop-rest-test.true) c.in_err-next_attribute.ensures i.1 in
+    let total = breaks_off attribute_at (within-consumes 0x30 attribute_of) i.0 c.loop-rest.rest
+    c.in_err-next_attribute.field-0.0 (many attribute_at (inside (now c.args.set)))
+    (sym c.is_at_end.ensures ∙ c.loop-rest-test.true) c.in_err-next_attribute.ensures i.1 in
     rw (p.1, p.2, total) refl
 
 pub returns-clause-fault : goal.returns-clause-fault

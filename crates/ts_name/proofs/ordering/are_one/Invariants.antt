@@ -1,6 +1,6 @@
 use Rattle.std.proofs.Common.{◌≡◌, ◌↔◌, List, drop}
 use Rattle.std.specs.Prelude.{map}
-use Rattle.ts_name.specs.Sorted.{canon_of}
+use Rattle.ts_name.specs.inside.Sorted.{canon_of}
 use Rattle.ts_name.proofs.ordering.are_one.Given as goal
 
 abbrev pub invariant-loop-i : goal.invariant-loop-i

@@ -11,8 +11,13 @@ returns-then-size c =
     (λ t. absurd cc, λ one. absurd (c.if-size.true (c.size.ensures ∙ (lengths-if-one (attributes_in c.args.a) (attributes_in c.args.b) one ∙ sym c.size-2.ensures))))
 
 pub returns-then-count : goal.returns-then-count
-returns-then-count c =
-    (λ t. absurd cc, λ one. absurd (c.if-count.true (c.count.ensures ∙ (counts-if-one (attributes_in c.args.a) (attributes_in c.args.b) one (attr_of c.in-Some.attribute) ∙ sym c.count-in-loop-attribute.ensures))))
+returns-then-count c = (
+  λ t. absurd cc,
+  λ one. absurd
+      (c.if-count.true (c.count.ensures
+      ∙ (counts-if-one (attributes_in c.args.a) (attributes_in c.args.b) one
+      (attr_of c.in-Some.attribute) ∙ sym c.count-in-loop-attribute.ensures))),
+)
 
 pub loop-attribute-preserved : goal.loop-attribute-preserved
 loop-attribute-preserved c =

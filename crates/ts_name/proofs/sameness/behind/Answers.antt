@@ -15,7 +15,10 @@ returns-in_err-first c = rw (c.from_residual.ensures) (λ within.
     let w = attributes_in c.in-Some.wanted in
     let front = i.4 ∙ ap (λ (xs : List (List Attr)). i.2 ++ xs) c.in-Some.ensures.steps in
     let name = i.5 ∙ ap (λ (xs : List (List Attr)). i.3 ++ xs) c.in_err-first.ensures.steps.0 in
-    not_longer w c.next.new.self (rest-within i.3 i.2 [] (w ∷ c.next.new.self) i.6 (subst (λ (n : List (List Attr)). IsWithin n (i.2 ++ w ∷ c.next.new.self)) name (subst (λ (f : List (List Attr)). IsWithin c.args.name f) front within))))
+    not_longer w c.next.new.self
+    (rest-within i.3 i.2 [] (w ∷ c.next.new.self) i.6
+    (subst (λ (n : List (List Attr)). IsWithin n (i.2 ++ w ∷ c.next.new.self)) name
+    (subst (λ (f : List (List Attr)). IsWithin c.args.name f) front within))))
 
 pub returns-then-not-same : goal.returns-then-not-same
 returns-then-not-same c = λ within.
@@ -24,7 +27,9 @@ returns-then-not-same c = λ within.
     let x = attributes_in c.in_ok-first.first in
     let front = i.4 ∙ ap (λ (xs : List (List Attr)). i.2 ++ xs) c.in-Some.ensures.steps in
     let name = i.5 ∙ ap (λ (xs : List (List Attr)). i.3 ++ xs) c.in_ok-first.ensures.steps in
-    let rest = rest-within i.3 i.2 (x ∷ c.next-in-loop-wanted.new.self) (w ∷ c.next.new.self) i.6 (subst (λ (n : List (List Attr)). IsWithin n (i.2 ++ w ∷ c.next.new.self)) name (subst (λ (f : List (List Attr)). IsWithin c.args.name f) front within)) in
+    let rest = rest-within i.3 i.2 (x ∷ c.next-in-loop-wanted.new.self) (w ∷ c.next.new.self) i.6
+    (subst (λ (n : List (List Attr)). IsWithin n (i.2 ++ w ∷ c.next.new.self)) name
+    (subst (λ (f : List (List Attr)). IsWithin c.args.name f) front within)) in
     let t = c.if-not-same.ensures.1 (first-same x w c.next-in-loop-wanted.new.self c.next.new.self rest) in
     absurd cc
 
@@ -34,8 +39,17 @@ loop-wanted-preserved c =
     let w = attributes_in c.in-Some.wanted in
     let x = attributes_in c.in_ok-first.first in
     let front = i.4 ∙ ap (λ (xs : List (List Attr)). i.2 ++ xs) c.in-Some.ensures.steps in
-    let name = i.5 ∙ ap (λ (xs : List (List Attr)). i.3 ++ xs) c.in_ok-first.ensures.steps in
-    (tt, tt, i.2 ++ w ∷ [], i.3 ++ x ∷ [], goes c.args.front i.2 c.next.new.self w front, goes c.args.name i.3 c.next-in-loop-wanted.new.self x name, same-more i.3 i.2 x w i.6 (c.if-not-same.ensures.0 refl))
+    let name = i.5 ∙ ap (λ (xs : List (List Attr)). i.3 ++ xs) c.in_ok-first.ensures.steps in (
+      tt,
+      tt,
+      i.2 ++ w ∷ [],
+      i.3 ++ x
+          ∷ [],
+      goes c.args.front i.2 c.next.new.self w front,
+      goes c.args.name i.3
+          c.next-in-loop-wanted.new.self x name,
+      same-more i.3 i.2 x w i.6 (c.if-not-same.ensures.0 refl),
+    )
 
 pub returns : goal.returns
 returns c =

@@ -22,7 +22,9 @@ loop-taken-preserved g c =
     let l : i < length (prefix f) = omega arith in
     elim c.match-command.branch [
       | in-Some+in_ok-push w ↦ record {
-        taken = ap commands w.machine-is ∙ w.in_ok-push.ensures.pushed ∙ ap (λ cs. cs ++ w.in-Some.command.now ∷ []) c.loop-taken.invariant.taken ∙ sym (prefix_take f i w.in-Some.command.now l (sym w.in-Some.ensures));
+        taken = ap commands w.machine-is ∙ w.in_ok-push.ensures.pushed
+            ∙ ap (λ cs. cs ++ w.in-Some.command.now ∷ []) c.loop-taken.invariant.taken
+            ∙ sym (prefix_take f i w.in-Some.command.now l (sym w.in-Some.ensures));
         basis = ap g.M.Machine.basis w.machine-is ∙ w.push.ensures.basis ∙ c.loop-taken.invariant.basis;
       }
       | in_default w ↦ absurd (prefix_none f i (option_copied c.command.result) l c.command.ensures (ap option_copied w.in_default.is))

@@ -8,5 +8,8 @@ pub returns : goal.returns
 returns g c =
     let kept = filter (λ (m : Message g.row.C.Denot). not (m.to == c.args.me)) (take c.args.looked c.args.messages.items) in
     c.in_ok-append.ensures.items
-    ∙ ap (λ (xs : List (Message g.row.C.Denot)). xs ++ c.in_ok-rest.rest.items) (c.in_ok-given.ensures ∙ ap (filter (λ (m : Message g.row.C.Denot). not (m.to == c.args.me))) c.in_ok-rest.ensures.items)
+    ∙ ap (λ (xs : List (Message g.row.C.Denot)). xs ++ c.in_ok-rest.rest.items)
+    (c.in_ok-given.ensures
+    ∙ ap (filter (λ (m : Message g.row.C.Denot). not (m.to == c.args.me)))
+    c.in_ok-rest.ensures.items)
     ∙ ap (λ (ys : List (Message g.row.C.Denot)). kept ++ ys) c.in_ok-rest.ensures.tail

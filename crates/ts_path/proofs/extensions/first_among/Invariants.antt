@@ -11,4 +11,6 @@ use Rattle.ts_path.proofs.extensions.first_among.Given as goal
 abbrev pub invariant-loop-extension : goal.invariant-loop-extension
 invariant-loop-extension l =
     (goal.iterator-loop-extension).can_next l.extension-iterator × (goal.iterator-loop-extension).is_finite l.extension-iterator
-    × (find (is_refused (cert_in l.cert).tbsCertificate) (extensions_in l.fn.extensions) ≡ find (is_refused (cert_in l.cert).tbsCertificate) (map unlocated (items_at located_in l.extension-iterator.rest)))
+    × (find (is_refused (cert_in l.cert).tbsCertificate) (extensions_in l.fn.extensions) ≡ find
+    (is_refused (cert_in l.cert).tbsCertificate)
+    (map unlocated (items_at located_in l.extension-iterator.rest)))

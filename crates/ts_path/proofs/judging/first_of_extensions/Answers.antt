@@ -2,7 +2,8 @@
 use Rattle.std.proofs.Common.{◌≡◌, Option, Some, None, sym, ap, ◌∙◌}
 use Rattle.ts_cert.specs.Certificate.{Certificate}
 use Rattle.ts_path.specs.Extensions.{first_refused}
-use Rattle.ts_path.specs.Conditions.{Meets, critical_extension}
+use Rattle.ts_path.specs.Conditions.{Meets}
+use Rattle.ts_reason.specs.Conditions.{critical_extension}
 use Rattle.ts_path.proofs.Steps.{next}
 use Rattle.ts_path.proofs.judging.first_of_extensions.Goals as goal
 

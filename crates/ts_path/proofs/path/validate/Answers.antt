@@ -9,13 +9,15 @@ use Rattle.ts_policy.specs.Labels.{Label, In}
 use Rattle.ts_policy.specs.Accepted.{AreAscending}
 use Rattle.ts_policy.specs.Paths.{CertPolicies}
 use Rattle.ts_policy.specs.Seen.{Seen}
-use Rattle.ts_path.specs.declared.reason.Reason.{Reason}
-use Rattle.ts_path.specs.declared.walk.Step.{Step}
-use Rattle.ts_path.specs.Chain.{Question, Link, Stands, chained, is_empty}
-use Rattle.ts_path.specs.State.{State, state_at, policies_above}
-use Rattle.ts_path.specs.Conditions.{Site, Condition, Accepts}
-use Rattle.ts_path.specs.Judging.{MeetsBelow, FailsFirst, IsStep, IsEnd}
-use Rattle.ts_path.specs.Verdict.{condition_of, site_of, Holds, IsLeast, HasDetails, AreAccepted}
+use Rattle.ts_der.specs.declared.oid.OidRef.{OidRef}
+use Rattle.ts_reason.specs.declared.reason.Reason.{Reason}
+use Rattle.ts_path.specs.Chain.{ChainQuestion, Link, Stands, chained, is_empty}
+use Rattle.ts_path.specs.State.{PathState, state_at, policies_above}
+use Rattle.ts_path.specs.Conditions.{Site, Accepts}
+use Rattle.ts_reason.specs.Conditions.{Condition}
+use Rattle.ts_path.specs.inside.Judging.{MeetsBelow, FailsFirst, IsStep, IsEnd}
+use Rattle.ts_path.specs.Verdict.{HoldsAt, IsLeast, HasDetails, AreAccepted}
+use Rattle.ts_reason.specs.View.{condition_of}
 use Rattle.ts_path.specs.View.{question_in, at}
 use Rattle.ts_path.proofs.Positions.{AllHold, none_passed, here, last_here, few, passes, stops, all_pass, accepted, split_first, site_is, state_goes_on, policies_go_on}
 use Rattle.ts_path.proofs.path.validate.Goals as goal
@@ -49,24 +51,24 @@ more_certs [] is = sym is
 more_certs (x ∷ xs) is = refl
 
 -- a certificate that is not the last is passed
-passed : (q : Question) (above rest below : List Certificate) (c : Certificate) (s : State) (p : List CertPolicies) → q.chain ≡ chained above rest → rest ≡ c ∷ below
+passed : (q : ChainQuestion) (above rest below : List Certificate) (c : Certificate) (s : PathState) (p : List CertPolicies) → q.chain ≡ chained above rest → rest ≡ c ∷ below
     → is_empty below ≡ false → s ≡ state_at q.asked (length q.chain) above → p ≡ policies_above q.asked (length q.chain) above
     → AllHold q (length above) → MeetsBelow 19 (at q.asked s p c false) → AllHold q (suc (length above))
 passed q above rest below c s p is split more state policies before met =
     let l : Link = record { above = above; certificate = c; below = below } in
     passes q l (here q.chain above rest below c is split) before (subst (MeetsBelow 19) (site_is q above below c s p false state policies (sym more)) met)
 
-few_passed : (q : Question) (above rest : List Certificate) (c : Certificate) (below : List Certificate) → q.chain ≡ chained above rest → rest ≡ c ∷ below → length q.chain ≤ 16
+few_passed : (q : ChainQuestion) (above rest : List Certificate) (c : Certificate) (below : List Certificate) → q.chain ≡ chained above rest → rest ≡ c ∷ below → length q.chain ≤ 16
     → (state_at q.asked (length q.chain) above).passed < 255
 unfolding state_at
 few_passed q above rest c below is split short = few q.chain above rest c below is split short
 
-position_is : (q : Question) (above : List Certificate) (s : State) (n : ℕ) → s ≡ state_at q.asked (length q.chain) above → n ≡ s.passed + 1 → suc (length above) ≡ n
+position_is : (q : ChainQuestion) (above : List Certificate) (s : PathState) (n : ℕ) → s ≡ state_at q.asked (length q.chain) above → n ≡ s.passed + 1 → suc (length above) ≡ n
 unfolding state_at
-position_is q above s n state is = let e = ap (λ (t : State). t.passed) state in omega (arith, is, e)
+position_is q above s n state is = let e = ap (λ (t : PathState). t.passed) state in omega (arith, is, e)
 
 -- a certificate that fails
-stopped : (q : Question) (above rest below : List Certificate) (c : Certificate) (s : State) (p : List CertPolicies) (last : Bool) (n : ℕ) (r : Reason) → q.chain ≡ chained above rest
+stopped : (q : ChainQuestion) (above rest below : List Certificate) (c : Certificate) (s : PathState) (p : List CertPolicies) (last : Bool) (n : ℕ) (r : Reason OidRef) → q.chain ≡ chained above rest
     → rest ≡ c ∷ below → is_empty below ≡ last → s ≡ state_at q.asked (length q.chain) above → p ≡ policies_above q.asked (length q.chain) above
     → AllHold q (length above) → FailsFirst (at q.asked s p c last) r → n ≡ s.passed + 1 → IsLeast q n (condition_of r) × HasDetails q n r
 stopped q above rest below c s p last n r is split end state policies before f position =
@@ -84,10 +86,10 @@ nothing [] is = refl
 nothing (c ∷ cs) is = absurd (true≢false (sym is))
 
 -- all certificates are passed
-ended : (q : Question) (above rest below : List Certificate) (c : Certificate) (s : State) (p : List CertPolicies) (policies : List Label) → q.chain ≡ chained above rest
+ended : (q : ChainQuestion) (above rest below : List Certificate) (c : Certificate) (s : PathState) (p : List CertPolicies) (policies : List Label) → q.chain ≡ chained above rest
     → rest ≡ c ∷ below → is_empty below ≡ true → s ≡ state_at q.asked (length q.chain) above → p ≡ policies_above q.asked (length q.chain) above
     → AllHold q (length above) → MeetsBelow 19 (at q.asked s p c true) → ((l : Label) → In l policies ↔ Accepts (at q.asked s p c true) l) → AreAscending policies
-    → ((i : ℕ) (k : Condition) → Holds k q i) × AreAccepted q policies
+    → ((i : ℕ) (k : Condition) → HoldsAt k q i) × AreAccepted q policies
 ended q above rest below c s p policies is split end state taken before met are ascending =
     let l : Link = record { above = above; certificate = c; below = below } in
     let e = site_is q above below c s p true state taken (sym end) in
@@ -113,7 +115,9 @@ loop-rest-preserved g c =
       has_more below c.if-is_empty.ensures,
       state_goes_on q i.0 cert c.loop-rest.walk.state c.in-Next.next.state state step.1,
       policies_go_on q i.0 cert c.loop-rest.walk.state c.loop-rest.walk.policies.certificates c.in-Next.next.policies state policies step.2,
-      passed q i.0 (map cert_in rest) (map cert_in below) cert c.loop-rest.walk.state c.loop-rest.walk.policies.certificates i.1 split (more_certs below c.if-is_empty.ensures) state policies i.5 step.0,
+      passed q i.0 (map cert_in rest) (map cert_in below) cert c.loop-rest.walk.state
+          c.loop-rest.walk.policies.certificates i.1 split (more_certs below c.if-is_empty.ensures)
+          state policies i.5 step.0,
     )
 
 pub position-position-requires : goal.position-position-requires
@@ -124,7 +128,9 @@ position-position-requires g c =
     let rest = c.loop-rest.rest.now in
     let below = take (length rest - 1) (drop 1 rest) in
     let split : map cert_in rest ≡ cert ∷ map cert_in below = ap (map cert_in) (split_first rest c.cert-item.result _ c.in-len1-up.len_at_least c.cert-item.is) in
-    subst (λ (s : State). s.passed < 255) (sym i.3) (few_passed q i.0 (map cert_in rest) cert (map cert_in below) i.1 split (subst (λ (k : ℕ). k ≤ 16) (sym (as_long c.args.chain.now)) c.requires.few))
+    subst (λ (s : PathState). s.passed < 255) (sym i.3)
+    (few_passed q i.0 (map cert_in rest) cert (map cert_in below) i.1 split
+    (subst (λ (k : ℕ). k ≤ 16) (sym (as_long c.args.chain.now)) c.requires.few))
 
 pub returns-in-Stop : goal.returns-in-Stop
 returns-in-Stop g c =
@@ -135,7 +141,10 @@ returns-in-Stop g c =
     let below = take (length rest - 1) (drop 1 rest) in
     let split : map cert_in rest ≡ cert ∷ map cert_in below = ap (map cert_in) (split_first rest c.cert-item.result _ c.in-len1-up.len_at_least c.cert-item.is) in
     let f = subst (IsStep (at q.asked c.loop-rest.walk.state c.loop-rest.walk.policies.certificates cert false)) c.in-Stop.is c.in_ok-next.ensures in
-    stopped q i.0 (map cert_in rest) (map cert_in below) cert c.loop-rest.walk.state c.loop-rest.walk.policies.certificates false _ c.in-Stop.reason i.1 split (more_certs below c.if-is_empty.ensures) i.3 (ap (λ (s : Seen). s.certificates) i.4) i.5 f c.position-position.ensures
+    stopped q i.0 (map cert_in rest) (map cert_in below) cert c.loop-rest.walk.state
+    c.loop-rest.walk.policies.certificates false _ c.in-Stop.reason i.1 split
+    (more_certs below c.if-is_empty.ensures) i.3 (ap (λ (s : Seen). s.certificates) i.4) i.5 f
+    c.position-position.ensures
 
 pub returns-in-Refused : goal.returns-in-Refused
 returns-in-Refused g c =
@@ -146,7 +155,10 @@ returns-in-Refused g c =
     let below = take (length rest - 1) (drop 1 rest) in
     let split : map cert_in rest ≡ cert ∷ map cert_in below = ap (map cert_in) (split_first rest c.cert-item.result _ c.in-len1-up.len_at_least c.cert-item.is) in
     let f = subst (IsEnd (at q.asked c.loop-rest.walk.state c.loop-rest.walk.policies.certificates cert true)) c.in-Refused.is c.in_ok-policies.ensures in
-    stopped q i.0 (map cert_in rest) (map cert_in below) cert c.loop-rest.walk.state c.loop-rest.walk.policies.certificates true _ c.in-Refused.reason i.1 split (none_below below c.if-is_empty.ensures) i.3 (ap (λ (s : Seen). s.certificates) i.4) i.5 f c.position-position.ensures
+    stopped q i.0 (map cert_in rest) (map cert_in below) cert c.loop-rest.walk.state
+    c.loop-rest.walk.policies.certificates true _ c.in-Refused.reason i.1 split
+    (none_below below c.if-is_empty.ensures) i.3 (ap (λ (s : Seen). s.certificates) i.4) i.5 f
+    c.position-position.ensures
 
 pub returns-in-Accepted : goal.returns-in-Accepted
 returns-in-Accepted g c =
@@ -157,4 +169,8 @@ returns-in-Accepted g c =
     let below = take (length rest - 1) (drop 1 rest) in
     let split : map cert_in rest ≡ cert ∷ map cert_in below = ap (map cert_in) (split_first rest c.cert-item.result _ c.in-len1-up.len_at_least c.cert-item.is) in
     let f = subst (IsEnd (at q.asked c.loop-rest.walk.state c.loop-rest.walk.policies.certificates cert true)) c.in-Accepted.is c.in_ok-policies.ensures in
-    ended q i.0 (map cert_in rest) (map cert_in below) cert c.loop-rest.walk.state c.loop-rest.walk.policies.certificates (map (λ p. p.now) c.in-Accepted.policies.items) i.1 split (none_below below c.if-is_empty.ensures) i.3 (ap (λ (s : Seen). s.certificates) i.4) i.5 f.0 f.1 f.2
+    ended q i.0 (map cert_in rest) (map cert_in below) cert c.loop-rest.walk.state
+    c.loop-rest.walk.policies.certificates
+    (map (λ p. p.content.now) c.in-Accepted.policies.items) i.1 split
+    (none_below below c.if-is_empty.ensures) i.3 (ap (λ (s : Seen). s.certificates) i.4) i.5 f.0
+    f.1 f.2

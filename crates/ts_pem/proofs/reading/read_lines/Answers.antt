@@ -4,7 +4,7 @@ use Rattle.std.specs.Prelude.{Vec}
 use Rattle.std.specs.declared.alloc.Global.{Global}
 use Rattle.ts_pem.specs.declared.block.Block.{Block}
 use Rattle.std.proofs.lemmas.Result.{err_from_is_err_and}
-use Rattle.ts_pem.specs.Lines.{rest_of}
+use Rattle.ts_pem.specs.inside.Lines.{rest_of}
 use Rattle.ts_pem.specs.Files.{block_in}
 use Rattle.ts_pem.specs.Pem.{lines, blocks_of}
 use Rattle.ts_pem.proofs.Steps.{goes_on, breaks_off, ends}

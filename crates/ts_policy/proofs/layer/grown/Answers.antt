@@ -1,5 +1,5 @@
 use Rattle.std.proofs.Common.{◌∙◌, ap, map, ◌++◌}
-use Rattle.ts_policy.specs.Links.{link_in}
+use Rattle.ts_policy.specs.inside.Links.{link_in}
 use Rattle.ts_policy.specs.Certificates.{mapping_in}
 use Rattle.ts_policy.proofs.Views.{map_append}
 use Rattle.ts_policy.proofs.Layered.{added_alike}

@@ -1,6 +1,6 @@
 use Rattle.std.proofs.Common.{◌∙◌, ap, map, ◌++◌}
-use Rattle.ts_policy.specs.Links.{link_in}
-use Rattle.ts_policy.specs.Layers.{wanted, unwanted_by, is_asked}
+use Rattle.ts_policy.specs.inside.Links.{link_in}
+use Rattle.ts_policy.specs.inside.Layers.{wanted, unwanted_by, is_asked}
 use Rattle.ts_policy.proofs.Views.{map_append, map_filter}
 use Rattle.ts_policy.proofs.Layered.{unwanted_alike}
 use Rattle.ts_policy.proofs.layer.next_layer.Goals as goal

@@ -1,7 +1,7 @@
 use Rattle.std.proofs.Common.{◌∙◌, ap, sym, length, ◌==◌, [], take, ◌-◌, map}
 use Rattle.std.proofs.lemmas.List.{length-map}
-use Rattle.ts_policy.specs.Layers.{is_over, newest}
-use Rattle.ts_policy.specs.Links.{link_in}
+use Rattle.ts_policy.specs.inside.Layers.{is_over, newest}
+use Rattle.ts_policy.specs.inside.Links.{link_in}
 use Rattle.ts_policy.proofs.KeptLaw.{newest-last, is_over-cons, some_if}
 use Rattle.ts_policy.proofs.policies.is_over.Goals as goal
 

@@ -1,5 +1,5 @@
 use Rattle.std.proofs.Common.{◌≡◌, []}
-use Rattle.ts_record.specs.Places.{places}
+use Rattle.ts_record.specs.inside.Places.{places}
 use Rattle.ts_record.proofs.compacted.empty_places.Given as goal
 
 abbrev pub invariant-loop : goal.invariant-loop

@@ -16,7 +16,10 @@ returns-clause-keeps g c =
     let k = c.requires.keeps in
     let list = old.copy.items in
     let way = under g.D.Disk.state g.D.Disk.lawful g.C.Codec.octets old k (begun list) (ap (λ s. rewrite_at s list old.done) c.requires.begun) in
-    keeps_as g.D.Disk.state g.D.Disk.lawful g.C.Codec.octets c.begin.new.self old.facts.items (rewrite_at c.begin.new.self.stage list 0) k.0 [] (copying list 0) (c.in_ok-begin.ensures.holds k.0 k.1 k.2) k.3 (ap (λ s. rewrite_at s list 0) c.in_ok-begin.ensures.stage)
+    keeps_as g.D.Disk.state g.D.Disk.lawful g.C.Codec.octets c.begin.new.self old.facts.items
+    (rewrite_at c.begin.new.self.stage list 0) k.0 [] (copying list 0)
+    (c.in_ok-begin.ensures.holds k.0 k.1 k.2) k.3
+    (ap (λ s. rewrite_at s list 0) c.in_ok-begin.ensures.stage)
     (starts_copying g.D.Disk.state g.D.Disk.lawful g.C.Codec.octets old.facts.items list k.1 way)
 
 pub returns-clause-moments : goal.returns-clause-moments

@@ -1,6 +1,6 @@
 use Rattle.ts_journal.specs.Settled.{member_in}
 use Rattle.std.proofs.Common.{◌++◌, ◌∷◌, ◌+◌, [], ◌∙◌, ap}
-use Rattle.ts_record.specs.Facts.{encoding}
+use Rattle.ts_record.specs.Facts.{fact_encoding}
 use Rattle.ts_record.specs.Rewrite.{copying, rewrite_at}
 use Rattle.ts_record.proofs.Ledgers.{from_bodies, rest_from, under, keeps_as, one_copied, is_ready, is_one_body}
 use Rattle.ts_record.proofs.ledger.copy.Goals as goal
@@ -16,7 +16,7 @@ copy-requires-clause-body g c =
     let fact = c.index.result.now in
     let way = under g.D.Disk.state g.D.Disk.lawful g.C.Codec.octets old k (copying list old.done) (ap (λ s. rewrite_at s list old.done) c.requires.copying) in
     let ready = is_ready g.D.Disk.state g.D.Disk.lawful g.C.Codec.octets old.facts.items list fact old.done k.1 way c.requires.left c.index.ensures in
-    (encoding g.C.Codec.octets fact, is_one_body g.D.Disk.state g.D.Disk.lawful g.C.Codec.octets fact ready, c.deref.ensures.value ∙ c.in_ok-octets.ensures)
+    (fact_encoding g.C.Codec.octets fact, is_one_body g.D.Disk.state g.D.Disk.lawful g.C.Codec.octets fact ready, c.deref.ensures.value ∙ c.in_ok-octets.ensures)
 
 pub entry_of_one-requires : goal.entry_of_one-requires
 entry_of_one-requires g c =
@@ -42,8 +42,10 @@ returns-clause-keeps g c =
     let octets = g.C.Codec.octets in
     let way = under g.D.Disk.state g.D.Disk.lawful octets old k (copying list old.done) (ap (λ s. rewrite_at s list old.done) c.requires.copying) in
     let ready = is_ready g.D.Disk.state g.D.Disk.lawful octets old.facts.items list fact old.done k.1 way c.requires.left c.index.ensures in
-    keeps_as g.D.Disk.state g.D.Disk.lawful octets c.copy.new.self old.facts.items (rewrite_at c.copy.new.self.stage list (old.done + 1)) k.0 (k.1 ++ encoding octets fact ∷ []) (copying list (old.done + 1))
-    (c.in_ok-copy.ensures.holds k.0 k.1 (encoding octets fact) (is_one_body g.D.Disk.state g.D.Disk.lawful octets fact ready) (c.deref.ensures.value ∙ c.in_ok-octets.ensures) k.2) k.3
+    keeps_as g.D.Disk.state g.D.Disk.lawful octets c.copy.new.self old.facts.items
+    (rewrite_at c.copy.new.self.stage list (old.done + 1)) k.0
+    (k.1 ++ fact_encoding octets fact ∷ []) (copying list (old.done + 1))
+    (c.in_ok-copy.ensures.holds k.0 k.1 (fact_encoding octets fact) (is_one_body g.D.Disk.state g.D.Disk.lawful octets fact ready) (c.deref.ensures.value ∙ c.in_ok-octets.ensures) k.2) k.3
     (ap (λ s. rewrite_at s list (old.done + 1)) (c.in_ok-copy.ensures.stage ∙ c.requires.copying))
     (one_copied g.D.Disk.state g.D.Disk.lawful octets old.facts.items list fact old.done k.1 way c.requires.left c.index.ensures)
 

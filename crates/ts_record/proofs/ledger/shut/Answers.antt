@@ -1,6 +1,6 @@
 use Rattle.ts_journal.specs.Settled.{member_in}
 use Rattle.std.proofs.Common.{◌∙◌, ap}
-use Rattle.ts_record.specs.Compacted.{compacted}
+use Rattle.ts_record.specs.Compacted.{compact}
 use Rattle.ts_record.specs.Rewrite.{begun, rewrite_at}
 use Rattle.ts_record.proofs.Ledgers.{from_bodies, rest_from, keeps_as, begins}
 use Rattle.ts_record.proofs.ledger.shut.Goals as goal
@@ -19,8 +19,11 @@ returns-clause-keeps g c =
     let old = c.args.c.now in
     let k = c.requires.keeps in
     let list = c.in_ok-copy.copy.items in
-    keeps_as g.D.Disk.state g.D.Disk.lawful g.C.Codec.octets c.shut.new.self old.facts.items (rewrite_at c.shut.new.self.stage list old.done) k.0 k.1 (begun list) (c.in_ok-shut.ensures.holds k.0 k.1 k.2) k.3 (ap (λ s. rewrite_at s list old.done) c.in_ok-shut.ensures.stage)
-    (begins g.D.Disk.state g.D.Disk.lawful g.C.Codec.octets old list k (c.in_ok-copy.ensures ∙ ap (λ l. compacted l) c.deref.ensures.value) k.1)
+    keeps_as g.D.Disk.state g.D.Disk.lawful g.C.Codec.octets c.shut.new.self old.facts.items
+    (rewrite_at c.shut.new.self.stage list old.done) k.0 k.1 (begun list)
+    (c.in_ok-shut.ensures.holds k.0 k.1 k.2) k.3
+    (ap (λ s. rewrite_at s list old.done) c.in_ok-shut.ensures.stage)
+    (begins g.D.Disk.state g.D.Disk.lawful g.C.Codec.octets old list k (c.in_ok-copy.ensures ∙ ap (λ l. compact l) c.deref.ensures.value) k.1)
 
 pub returns-clause-moments : goal.returns-clause-moments
 returns-clause-moments g c =

@@ -21,7 +21,9 @@ returns-clause-keeps g c =
     let list = old.copy.items in
     let way = under g.D.Disk.state g.D.Disk.lawful g.C.Codec.octets old k (copying list old.done) (ap (λ s. rewrite_at s list old.done) c.requires.copying) in
     let are = all_copied g.D.Disk.state g.D.Disk.lawful g.C.Codec.octets old.facts.items list old.done k.1 way c.requires.none_left in
-    keeps_as g.D.Disk.state g.D.Disk.lawful g.C.Codec.octets c.switch.new.self c.replace.result.items (rewrite_at c.switch.new.self.stage c.replace.new.dest.items old.done) k.1 [] idle (c.in_ok-switch.ensures.holds k.0 k.1 k.2)
+    keeps_as g.D.Disk.state g.D.Disk.lawful g.C.Codec.octets c.switch.new.self
+    c.replace.result.items (rewrite_at c.switch.new.self.stage c.replace.new.dest.items old.done)
+    k.1 [] idle (c.in_ok-switch.ensures.holds k.0 k.1 k.2)
     (subst (λ v. AreFacts g.C.Codec.octets k.1 v.items) (sym c.replace.ensures.value) are)
     (ap (λ s. rewrite_at s c.replace.new.dest.items old.done) c.in_ok-switch.ensures.stage) tt
 

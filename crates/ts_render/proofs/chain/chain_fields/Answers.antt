@@ -11,10 +11,12 @@ loop-place-preserved c rest are =
     let xs = c.certificates_in-octets-items.result.now in
     let p = c.loop-place.place in
     let failing = c.failing_in-failing.result in
-    let f = c.in_ok-shown.field-0 in
+    let f = c.in_ok-certificate_fields.field-0 in
     let left = next xs cs p c.octets-item.result c.certificates_in-octets-items.ensures c.loop-place-test.true c.octets-item.is in
     let fails : f.fails ≡ is_place (p + 1) failing = search rules in
-    rw c.in_ok-push.ensures.items (shown_more c.loop-place.all.items rest f c.octets-item.result.items _ _ (p + 1) failing (marks cs failing) left c.in_ok-shown.ensures.0 fails c.loop-place.invariant are)
+    rw c.in_ok-push.ensures.items
+    (shown_more c.loop-place.all.items rest f c.octets-item.result.items _ _ (p + 1) failing
+    (marks cs failing) left c.in_ok-certificate_fields.ensures.0 fails c.loop-place.invariant are)
 
 pub returns : goal.returns
 returns c =

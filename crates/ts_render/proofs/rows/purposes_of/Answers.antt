@@ -8,4 +8,4 @@ returns-in-Some-SetPurposes c =
     let octets = c.args.octets.now in
     let read = rw (c.in-Some-SetPurposes.is, c.in-Some-SetPurposes.field-0-is) at c.in_ok-purposes.ensures.found in
     let is = set_octets octets _ _ _ read.0.id read.0.fields.0 (sym c.in_ok-command.ensures ∙ (sym c.deref.ensures.value ∙ read.1)) in
-    told_all c.told.result octets _ is c.told.ensures
+    told_all c.purpose_fields.result octets _ is c.purpose_fields.ensures

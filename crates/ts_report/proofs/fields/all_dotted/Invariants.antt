@@ -3,5 +3,5 @@ use Rattle.std.proofs.Common.{◌≡◌, map, take, string_bytes}
 use Rattle.ts_report.specs.Text.{oid_text}
 use Rattle.ts_report.proofs.fields.all_dotted.Given as goal
 
-abbrev pub invariant-loop-content : goal.invariant-loop-content
-invariant-loop-content l = map string_bytes l.texts.items ≡ map oid_text (map (λ p. p.now) (take l.content-index l.contents))
+abbrev pub invariant-loop-oid : goal.invariant-loop-oid
+invariant-loop-oid l = map string_bytes l.texts.items ≡ map oid_text (map (λ p. p.content.now) (take l.oid-index l.oids))

@@ -4,4 +4,4 @@ use Rattle.ts_report.specs.Text.{policies_text}
 use Rattle.ts_report.proofs.printed.policies_text.Given as goal
 
 abbrev pub invariant-loop-policy : goal.invariant-loop-policy
-invariant-loop-policy l = string_bytes l.text ≡ policies_text (map (λ p. p.now) (take l.policy-index l.policies))
+invariant-loop-policy l = string_bytes l.text ≡ policies_text (map (λ p. p.content.now) (take l.policy-index l.policies))

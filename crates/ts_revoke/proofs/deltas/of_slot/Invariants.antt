@@ -8,4 +8,6 @@ use Rattle.ts_revoke.proofs.deltas.of_slot.Given as goal
 
 abbrev pub invariant-loop-delta : goal.invariant-loop-delta
 invariant-loop-delta l =
-    find (λ (d : CertificateList). is_same_slot (crl_in l.fn.crl) d) (map crl_in (drop l.delta-index l.fn.deltas)) ≡ find (λ (d : CertificateList). is_same_slot (crl_in l.fn.crl) d) (map crl_in l.fn.deltas)
+    find (λ (d : CertificateList). is_same_slot (crl_in l.fn.crl) d)
+    (map crl_in (drop l.delta-index l.fn.deltas)) ≡ find
+    (λ (d : CertificateList). is_same_slot (crl_in l.fn.crl) d) (map crl_in l.fn.deltas)

@@ -1,7 +1,7 @@
 use Rattle.std.proofs.Common.{get_or, subst, sym}
 use Rattle.ts_crl.specs.ListView.{crl_in}
 use Rattle.ts_revoke.specs.declared.looked.Looked.TheVariants.{NotYet}
-use Rattle.ts_revoke.specs.Looked.{IsLooked}
+use Rattle.ts_revoke.specs.inside.Looked.{IsLooked}
 use Rattle.ts_revoke.specs.View.{question_in}
 use Rattle.ts_revoke.proofs.issuer_pass.issuer_pass.Goals as goal
 

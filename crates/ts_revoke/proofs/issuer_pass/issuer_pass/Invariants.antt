@@ -1,7 +1,7 @@
 use Rattle.std.proofs.Common.{◌≡◌, drop}
 use Rattle.std.specs.Prelude.{map}
 use Rattle.ts_crl.specs.ListView.{crl_in}
-use Rattle.ts_revoke.specs.ByList.{status_after}
+use Rattle.ts_revoke.specs.inside.ByList.{status_after}
 use Rattle.ts_revoke.specs.Usable.{issuer_point}
 use Rattle.ts_revoke.specs.View.{question_in}
 use Rattle.ts_revoke.proofs.issuer_pass.issuer_pass.Given as goal

@@ -7,4 +7,6 @@ use Rattle.ts_revoke.specs.Names.{share}
 use Rattle.ts_revoke.proofs.names.share.Given as goal
 
 abbrev pub invariant-loop-name : goal.invariant-loop-name
-invariant-loop-name l = share (items_at general_of l.name-iterator.rest) (items_at general_of (inside (now l.fn.others))) ≡ share (items_at general_of (inside (now l.fn.names))) (items_at general_of (inside (now l.fn.others)))
+invariant-loop-name l = share (items_at general_of l.name-iterator.rest)
+    (items_at general_of (inside (now l.fn.others))) ≡ share
+    (items_at general_of (inside (now l.fn.names))) (items_at general_of (inside (now l.fn.others)))

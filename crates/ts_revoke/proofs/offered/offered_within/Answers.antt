@@ -5,7 +5,7 @@ use Rattle.ts_shape.specs.Items.{items_at}
 use Rattle.ts_ext.specs.declared.reason_set.ReasonSet.{ReasonSet}
 use Rattle.ts_ext.specs.NameViews.{point_in}
 use Rattle.ts_ext.specs.Points.{Point, point_item}
-use Rattle.ts_revoke.specs.ByList.{offered_by, offered}
+use Rattle.ts_revoke.specs.inside.ByList.{offered_by, offered}
 use Rattle.ts_revoke.specs.Reasons.{union}
 use Rattle.ts_revoke.proofs.Sets.{none-union, union-none, union-assoc}
 use Rattle.ts_revoke.proofs.offered.offered_within.Goals as goal

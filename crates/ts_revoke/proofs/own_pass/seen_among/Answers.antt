@@ -5,8 +5,8 @@ use Rattle.ts_ext.specs.NameViews.{points_in}
 use Rattle.ts_crl.specs.declared.crl.Crl.{Crl}
 use Rattle.ts_crl.specs.ListView.{crl_in}
 use Rattle.ts_revoke.specs.declared.found.Found.{Found}
-use Rattle.ts_revoke.specs.ByList.{earlier, found_after, reasons_after}
-use Rattle.ts_revoke.specs.Looked.{AreLooked}
+use Rattle.ts_revoke.specs.inside.ByList.{earlier, found_after, reasons_after}
+use Rattle.ts_revoke.specs.inside.Looked.{AreLooked}
 use Rattle.ts_revoke.specs.Reasons.{union}
 use Rattle.ts_revoke.specs.View.{question_in}
 use Rattle.ts_revoke.proofs.Looking.{next_is, looked_more}

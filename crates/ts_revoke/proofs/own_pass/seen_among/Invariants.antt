@@ -3,8 +3,8 @@ use Rattle.std.specs.Prelude.{map, unwrap_or, option_map}
 use Rattle.ts_ext.specs.NamedBits.{no_reasons}
 use Rattle.ts_ext.specs.NameViews.{points_in}
 use Rattle.ts_crl.specs.ListView.{crl_in}
-use Rattle.ts_revoke.specs.ByList.{found_after, reasons_after}
-use Rattle.ts_revoke.specs.Looked.{AreLooked}
+use Rattle.ts_revoke.specs.inside.ByList.{found_after, reasons_after}
+use Rattle.ts_revoke.specs.inside.Looked.{AreLooked}
 use Rattle.ts_revoke.specs.View.{question_in}
 use Rattle.ts_revoke.proofs.own_pass.seen_among.Given as goal
 

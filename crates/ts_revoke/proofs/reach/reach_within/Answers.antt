@@ -7,7 +7,7 @@ use Rattle.ts_ext.specs.declared.reason_set.ReasonSet.{ReasonSet}
 use Rattle.ts_ext.specs.NamedBits.{no_reasons}
 use Rattle.ts_ext.specs.NameViews.{point_in, issuing_point_in}
 use Rattle.ts_ext.specs.Points.{Point, point_item}
-use Rattle.ts_revoke.specs.ByList.{is_reached, first_reached, reached_reasons}
+use Rattle.ts_revoke.specs.inside.ByList.{is_reached, first_reached, reached_reasons}
 use Rattle.ts_revoke.specs.Decision.{or_reason}
 use Rattle.ts_revoke.specs.Reasons.{union}
 use Rattle.ts_revoke.specs.Usable.{mask_of}
@@ -40,7 +40,9 @@ loop-point-preserved c =
     let below : c.loop-point.index < length c.args.points.content.now = omega (arith, count, i.2) in
     let more : c.next-index.result ≡ c.loop-point.index + 1 = c.next-index.ensures below in
     let mask : Bool → ReasonSet = λ b. if b then mask_of p scope else no_reasons in (
-      place_more scope c.loop-point.place c.first_place-place.result c.is_reached-reached.result c.loop-point.index c.next-index.result p ps c.is_reached-reached.ensures c.first_place-place.ensures more
+      place_more scope c.loop-point.place c.first_place-place.result c.is_reached-reached.result
+          c.loop-point.index c.next-index.result p ps c.is_reached-reached.ensures
+          c.first_place-place.ensures more
           ∙ ap (λ (xs : List Point). or_reason c.loop-point.place (first_reached scope c.loop-point.index xs)) (sym steps) ∙ i.0,
       ap (λ (s : ReasonSet). union s (reached_reasons scope ps)) (c.union-reasons.ensures ∙ ap (union c.loop-point.reasons) (c.mask_if.ensures ∙ ap mask c.is_reached-reached.ensures))
           ∙ union-assoc c.loop-point.reasons (mask (is_reached scope p)) (reached_reasons scope ps)

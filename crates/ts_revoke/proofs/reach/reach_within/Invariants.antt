@@ -5,7 +5,7 @@ use Rattle.ts_der.specs.View.{now}
 use Rattle.ts_ext.specs.NameViews.{issuing_point_in}
 use Rattle.ts_ext.specs.Points.{point_item}
 use Rattle.ts_shape.specs.Items.{items_at}
-use Rattle.ts_revoke.specs.ByList.{first_reached, reached_reasons}
+use Rattle.ts_revoke.specs.inside.ByList.{first_reached, reached_reasons}
 use Rattle.ts_revoke.specs.Decision.{or_reason}
 use Rattle.ts_revoke.specs.Reasons.{union}
 use Rattle.ts_revoke.proofs.reach.reach_within.Given as goal

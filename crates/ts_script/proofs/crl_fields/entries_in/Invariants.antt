@@ -2,7 +2,7 @@
 use Rattle.std.proofs.Common.{◌≡◌, take}
 use Rattle.std.specs.List.{flat_map}
 use Rattle.ts_script.specs.CrlLineWords.{entry_said}
-use Rattle.ts_script.specs.CrlParts.{crl_parts}
+use Rattle.ts_script.specs.inside.CrlParts.{crl_parts}
 use Rattle.ts_script.proofs.crl_fields.entries_in.Given as goal
 
 abbrev pub invariant-loop-word : goal.invariant-loop-word

@@ -3,7 +3,7 @@ use Rattle.std.proofs.Common.{◌≡◌, ◌++◌, drop}
 use Rattle.std.specs.List.{flat_map}
 use Rattle.ts_make.specs.Told.{list_of}
 use Rattle.ts_script.specs.CrlLineWords.{number_said}
-use Rattle.ts_script.specs.CrlParts.{crl_parts}
+use Rattle.ts_script.specs.inside.CrlParts.{crl_parts}
 use Rattle.ts_script.proofs.crl_fields.number_in.Given as goal
 
 abbrev pub invariant-loop-word : goal.invariant-loop-word

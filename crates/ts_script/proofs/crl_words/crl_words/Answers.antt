@@ -4,7 +4,7 @@ use Rattle.std.proofs.lemmas.Result.{err_from_is_err_and}
 use Rattle.std.proofs.lemmas.List.{append-nil, map-append}
 use Rattle.ts_script.specs.Pieces.{pieces_behind}
 use Rattle.ts_script.specs.CrlLineWords.{CrlPart, AreCrlWords}
-use Rattle.ts_script.specs.CrlParts.{crl_part, crl_parts}
+use Rattle.ts_script.specs.inside.CrlParts.{crl_part, crl_parts}
 use Rattle.ts_script.proofs.Decoding.{refused_more}
 use Rattle.ts_script.proofs.CrlReading.{CrlReadsOn, CrlReadsOn-next, CrlReadsOn-stops}
 use Rattle.ts_script.proofs.crl_words.crl_words.Goals as goal
@@ -20,7 +20,9 @@ returns-in_err-read-clause-fault c =
     let word = c.first_piece.result.0.now in
     let split : left ≡ word ∷ behind = rw c.in-Some.is c.first_piece.ensures in
     let p = err_from_is_err_and c.from_residual.result c.from_residual.ensures.1 in
-    rw (p.1, p.2) (refused_more c.in_err-read.field-0.0 (λ none. CrlReadsOn-stops words left behind word (crl_parts c.loop-rest.said.items) split none c.loop-rest.invariant) c.in_err-read.ensures.fault)
+    rw (p.1, p.2) (refused_more c.in_err-read.field-0.0
+    (λ none. CrlReadsOn-stops words left behind word (crl_parts c.loop-rest.said.items) split none
+    c.loop-rest.invariant) c.in_err-read.ensures.fault)
 
 pub loop-rest-preserved : goal.loop-rest-preserved
 loop-rest-preserved c =

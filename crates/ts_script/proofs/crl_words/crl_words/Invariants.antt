@@ -1,7 +1,7 @@
 -- What was read precedes what is left.
 use Rattle.std.proofs.Common.{length, option_map}
 use Rattle.ts_script.specs.Pieces.{pieces_behind}
-use Rattle.ts_script.specs.CrlParts.{crl_parts}
+use Rattle.ts_script.specs.inside.CrlParts.{crl_parts}
 use Rattle.ts_script.proofs.CrlReading.{CrlReadsOn}
 use Rattle.ts_script.proofs.crl_words.crl_words.Given as goal
 

@@ -6,7 +6,7 @@ use Rattle.ts_script.proofs.crl_words.reason_of.Goals as goal
 
 pub returns-in-Ok : goal.returns-in-Ok
 returns-in-Ok c =
-    reason_read c.args.value.now c.in_ok-number_of.field-0 c.numbered.result c.in_ok-number_of.ensures (c.numbered.ensures ∙ ap reason_of_number c.in-Ok.ensures.1)
+    reason_read c.args.value.now c.in_ok-number_of_octets.field-0 c.of_number.result c.in_ok-number_of_octets.ensures (c.of_number.ensures ∙ ap reason_of_number c.in-Ok.ensures.1)
 
 pub returns-in-Err : goal.returns-in-Err
-returns-in-Err c = reason_great c.args.value.now c.in_ok-number_of.field-0 c.in_ok-number_of.ensures c.in-Err.ensures
+returns-in-Err c = reason_great c.args.value.now c.in_ok-number_of_octets.field-0 c.in_ok-number_of_octets.ensures c.in-Err.ensures

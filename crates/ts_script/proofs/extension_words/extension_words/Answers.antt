@@ -6,7 +6,7 @@ use Rattle.ts_script.specs.Pieces.{pieces_behind}
 use Rattle.ts_script.specs.Words.{RefusesWord}
 use Rattle.ts_script.specs.Parts.{Part}
 use Rattle.ts_script.specs.ExtensionWords.{AreWords, AreParts}
-use Rattle.ts_script.specs.OwnedParts.{parts_of}
+use Rattle.ts_script.specs.inside.OwnedParts.{parts_of}
 use Rattle.ts_script.proofs.Decoding.{refused_more}
 use Rattle.ts_script.proofs.extension_words.extension_words.Goals as goal
 

@@ -2,7 +2,7 @@
 use Rattle.std.proofs.Common.{◌≡◌, map, take}
 use Rattle.std.specs.List.{flat_map}
 use Rattle.ts_script.specs.Parts.{part_in}
-use Rattle.ts_script.specs.OwnedParts.{parts_of}
+use Rattle.ts_script.specs.inside.OwnedParts.{parts_of}
 use Rattle.ts_script.proofs.extension_words.parts_in.Given as goal
 
 abbrev pub invariant-loop-word : goal.invariant-loop-word

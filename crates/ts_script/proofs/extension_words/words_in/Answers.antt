@@ -7,7 +7,7 @@ use Rattle.std.proofs.lemmas.List.Concat.{flat_map-append}
 use Rattle.ts_script.specs.Pieces.{pieces_behind}
 use Rattle.ts_script.specs.Parts.{Part}
 use Rattle.ts_script.specs.ExtensionWords.{AreWords}
-use Rattle.ts_script.specs.OwnedParts.{parts_of}
+use Rattle.ts_script.specs.inside.OwnedParts.{parts_of}
 use Rattle.ts_script.proofs.Decoding.{ReadsOn, ReadsOn-next, ReadsOn-stops, refused_more}
 use Rattle.ts_script.proofs.extension_words.words_in.Goals as goal
 
@@ -22,7 +22,9 @@ returns-in_err-read-clause-fault c =
     let word = c.first_piece.result.0.now in
     let split : left ≡ word ∷ behind = rw c.in-Some.is c.first_piece.ensures in
     let p = err_from_is_err_and c.from_residual.result c.from_residual.ensures.1 in
-    rw (p.1, p.2) (refused_more c.in_err-read.field-0.0 (λ none. ReadsOn-stops words left behind word (flat_map parts_of c.loop-rest.said.items) split none c.loop-rest.invariant) c.in_err-read.ensures.fault)
+    rw (p.1, p.2) (refused_more c.in_err-read.field-0.0
+    (λ none. ReadsOn-stops words left behind word (flat_map parts_of c.loop-rest.said.items) split
+    none c.loop-rest.invariant) c.in_err-read.ensures.fault)
 
 pub loop-rest-preserved : goal.loop-rest-preserved
 loop-rest-preserved c =
@@ -35,7 +37,10 @@ loop-rest-preserved c =
     let next = ReadsOn-next words left behind word (flat_map parts_of before) (parts_of c.in_ok-read.field-0) split c.in_ok-read.ensures.found c.loop-rest.invariant in
     let items : c.push.new.self.items ≡ before ++ c.in_ok-read.field-0 ∷ [] = search rules in
     let parts : flat_map parts_of c.push.new.self.items ≡ flat_map parts_of before ++ parts_of c.in_ok-read.field-0 =
-    ap (flat_map parts_of) items ∙ (flat_map-append parts_of before (c.in_ok-read.field-0 ∷ []) ∙ ap (λ (ps : List Part). flat_map parts_of before ++ ps) (append-nil (parts_of c.in_ok-read.field-0))) in
+    ap (flat_map parts_of) items
+    ∙ (flat_map-append parts_of before (c.in_ok-read.field-0 ∷ [])
+    ∙ ap (λ (ps : List Part). flat_map parts_of before ++ ps)
+    (append-nil (parts_of c.in_ok-read.field-0))) in
     subst (λ (ps : List Part). ReadsOn words ps behind) (sym parts) next
 
 pub returns-clause-found : goal.returns-clause-found

@@ -2,7 +2,7 @@
 use Rattle.std.proofs.Common.{length, option_map}
 use Rattle.std.specs.List.{flat_map}
 use Rattle.ts_script.specs.Pieces.{pieces_behind}
-use Rattle.ts_script.specs.OwnedParts.{parts_of}
+use Rattle.ts_script.specs.inside.OwnedParts.{parts_of}
 use Rattle.ts_script.proofs.Decoding.{ReadsOn}
 use Rattle.ts_script.proofs.extension_words.words_in.Given as goal
 

@@ -1,4 +1,4 @@
-use Rattle.ts_search.specs.Dead.{fronts_in}
+use Rattle.ts_search.specs.inside.Dead.{fronts_in}
 use Rattle.ts_search.proofs.DeadFronts.{none-dead}
 use Rattle.ts_search.proofs.fronts.no_fronts.Goals as goal
 

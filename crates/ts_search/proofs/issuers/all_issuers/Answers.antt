@@ -2,14 +2,16 @@ use Rattle.std.proofs.Common.{ℕ, length, map, ap, ◌∙◌, ◌≡◌, arith}
 use Rattle.std.specs.List.{range_with_len}
 use Rattle.ts_cert.specs.CertView.{cert_in}
 use Rattle.ts_search.specs.Candidates.{issues}
-use Rattle.ts_search.specs.Levels.{issuers}
+use Rattle.ts_search.specs.inside.Levels.{issuers}
 use Rattle.ts_search.proofs.Rows.{rows_made, one_more_row}
 use Rattle.ts_search.proofs.issuers.all_issuers.Goals as goal
 
 pub loop-place-preserved : goal.loop-place-preserved
 loop-place-preserved c =
     let f = issuers (issues (map cert_in c.args.certificates.now)) (length c.args.certificates.now) in
-    one_more_row (λ row. row.items) f c.loop-place.place c.loop-place.rows.items c.push.new.self.items c.in_ok-issuers_of.field-0 c.loop-place.invariant c.in_ok-push.ensures.items c.in_ok-issuers_of.ensures
+    one_more_row (λ row. row.items) f c.loop-place.place c.loop-place.rows.items
+    c.push.new.self.items c.in_ok-issuers_of.field-0 c.loop-place.invariant
+    c.in_ok-push.ensures.items c.in_ok-issuers_of.ensures
 
 pub returns : goal.returns
 returns c =

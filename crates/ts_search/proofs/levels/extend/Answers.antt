@@ -1,5 +1,5 @@
 use Rattle.std.proofs.Common.{refl, ap, ◌∙◌, ◌++◌, ◌∷◌, map, filter, take, arith, List, ℕ}
-use Rattle.ts_search.specs.Levels.{is_new, longer}
+use Rattle.ts_search.specs.inside.Levels.{is_new, longer}
 use Rattle.ts_search.proofs.Takes.{made_whole}
 use Rattle.ts_search.proofs.levels.extend.Goals as goal
 

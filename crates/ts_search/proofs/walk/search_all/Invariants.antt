@@ -2,8 +2,8 @@
 use Rattle.std.proofs.Common.{◌≡◌, ◌+◌, length, map, take}
 use Rattle.ts_cert.specs.CertView.{cert_in}
 use Rattle.ts_path.specs.View.{anchor_in, asked_under}
-use Rattle.ts_search.specs.Dead.{AreDeadUnder, fronts_in}
-use Rattle.ts_search.specs.Levels.{chains, level}
+use Rattle.ts_search.specs.inside.Dead.{AreDeadUnder, fronts_in}
+use Rattle.ts_search.specs.inside.Levels.{chains, level}
 use Rattle.ts_search.specs.Search.{NoneOf}
 use Rattle.ts_search.specs.View.{search_among}
 use Rattle.ts_search.proofs.walk.search_all.Given as goal

@@ -1,7 +1,7 @@
 -- The messages so far are after those that were there, as far as there is room.
 use Rattle.std.proofs.Common.{◌≡◌, ◌++◌, map, take}
 use Rattle.ts_wire.specs.declared.frame.Frame.TheVariants.{Peer}
-use Rattle.ts_serve.specs.Outbox.{IsOutbox}
+use Rattle.ts_serve.specs.inside.Outbox.{IsOutbox}
 use Rattle.ts_serve.proofs.outbox.put_behind.Given as goal
 
 abbrev pub invariant-loop-message : goal.invariant-loop-message

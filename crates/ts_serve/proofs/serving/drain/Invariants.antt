@@ -1,16 +1,16 @@
 -- The frames that were taken are answered.
 use Rattle.std.proofs.Common.{length}
-use Rattle.ts_question.specs.Question.{Asked}
+use Rattle.ts_question.specs.Question.{StoreQuestion}
 use Rattle.ts_node.specs.Machine.{store_of}
 use Rattle.ts_node.specs.Node.{IsSound}
 use Rattle.ts_store.specs.Octets.{octets_of}
-use Rattle.ts_serve.specs.Turn.{Turn}
-use Rattle.ts_serve.specs.Steps.{HasServed}
+use Rattle.ts_serve.specs.Turn.{ServerTurn}
+use Rattle.ts_serve.specs.inside.Steps.{HasServed}
 use Rattle.ts_serve.proofs.serving.drain.Given as goal
 
 abbrev pub invariant-loop-frame : goal.invariant-loop-frame
 invariant-loop-frame g l = record {
-  served : HasServed (Turn g.D.Disk.state (store_of Asked g.M.Machine.client_id g.M.Machine.outcome) g.M.Machine.basis g.M.Machine.is_answer)
+  served : HasServed (ServerTurn g.D.Disk.state (store_of StoreQuestion g.M.Machine.client_id g.M.Machine.outcome) g.M.Machine.basis g.M.Machine.is_answer)
       l.initial.feed l.initial.server (g.W.Write.contents l.initial.writer) l.server l.feed (g.W.Write.contents l.writer);
   sound : IsSound g.D.Disk.state octets_of g.M.Machine.commands l.server.node;
 }

@@ -7,13 +7,24 @@ use Rattle.ts_serve.proofs.serving.serve.Goals as goal
 
 pub returns-clause-served : goal.returns-clause-served
 returns-clause-served g c =
-    if_told _ (g.R.Read.remaining c.args.reader.now) (g.R.Read.remaining c.serve_within.new.reader) c.args.server.now c.serve_within.new.server (g.W.Write.contents c.args.writer.now) (g.W.Write.contents c.serve_within.new.writer) c.serve_within.result c.serve_within.ensures.serves
+    if_told _ (g.R.Read.remaining c.args.reader.now) (g.R.Read.remaining c.serve_within.new.reader)
+    c.args.server.now c.serve_within.new.server (g.W.Write.contents c.args.writer.now)
+    (g.W.Write.contents c.serve_within.new.writer) c.serve_within.result
+    c.serve_within.ensures.serves
 
 pub returns-clause-run : goal.returns-clause-run
 returns-clause-run g c =
-    has_run _ (g.R.Read.remaining c.args.reader.now) (g.R.Read.remaining c.serve_within.new.reader) c.args.server.now c.serve_within.new.server (g.W.Write.contents c.args.writer.now) (g.W.Write.contents c.serve_within.new.writer) c.serve_within.result c.serve_within.ensures.serves
+    has_run _ (g.R.Read.remaining c.args.reader.now) (g.R.Read.remaining c.serve_within.new.reader)
+    c.args.server.now c.serve_within.new.server (g.W.Write.contents c.args.writer.now)
+    (g.W.Write.contents c.serve_within.new.writer) c.serve_within.result
+    c.serve_within.ensures.serves
 
 pub returns-clause-exact : goal.returns-clause-exact
 returns-clause-exact g c =
-    exact_if _ (only_requests _ _ _ _ false) (g.R.Read.remaining c.args.reader.now) c.args.server.now c.serve_within.new.server (g.W.Write.contents c.args.writer.now) (g.W.Write.contents c.serve_within.new.writer) c.serve_within.result
-    (if_told _ (g.R.Read.remaining c.args.reader.now) (g.R.Read.remaining c.serve_within.new.reader) c.args.server.now c.serve_within.new.server (g.W.Write.contents c.args.writer.now) (g.W.Write.contents c.serve_within.new.writer) c.serve_within.result c.serve_within.ensures.serves)
+    exact_if _ (only_requests _ _ _ _ false) (g.R.Read.remaining c.args.reader.now)
+    c.args.server.now c.serve_within.new.server (g.W.Write.contents c.args.writer.now)
+    (g.W.Write.contents c.serve_within.new.writer) c.serve_within.result
+    (if_told _ (g.R.Read.remaining c.args.reader.now) (g.R.Read.remaining c.serve_within.new.reader)
+    c.args.server.now c.serve_within.new.server (g.W.Write.contents c.args.writer.now)
+    (g.W.Write.contents c.serve_within.new.writer) c.serve_within.result
+    c.serve_within.ensures.serves)

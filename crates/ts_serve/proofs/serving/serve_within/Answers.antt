@@ -14,8 +14,12 @@ loop-read-init g c = record {
 pub returns-in_err-step-clause-serves : goal.returns-in_err-step-clause-serves
 returns-in_err-step-clause-serves g c =
     let p = err_from_is_err_and c.from_residual.result c.from_residual.ensures.1 in
-    rw (p.1, p.2) (stops _ (g.R.Read.remaining c.args.reader.now) (g.R.Read.remaining c.loop-read.reader) (g.R.Read.remaining c.step.new.reader) _ c.args.server.now c.loop-read.server c.step.new.server
-    (g.W.Write.contents c.args.writer.now) (g.W.Write.contents c.loop-read.writer) (g.W.Write.contents c.step.new.writer) c.loop-read.feed c.step.new.feed c.loop-read.invariant.so_far c.in_err-step.ensures.reads)
+    rw (p.1, p.2) (stops _ (g.R.Read.remaining c.args.reader.now)
+    (g.R.Read.remaining c.loop-read.reader) (g.R.Read.remaining c.step.new.reader) _
+    c.args.server.now c.loop-read.server c.step.new.server
+    (g.W.Write.contents c.args.writer.now) (g.W.Write.contents c.loop-read.writer)
+    (g.W.Write.contents c.step.new.writer) c.loop-read.feed c.step.new.feed
+    c.loop-read.invariant.so_far c.in_err-step.ensures.reads)
 
 pub returns-then-not-branch-clause-serves : goal.returns-then-not-branch-clause-serves
 returns-then-not-branch-clause-serves g c =
@@ -34,4 +38,6 @@ loop-read-preserved g c = record {
 
 pub returns-clause-serves : goal.returns-clause-serves
 returns-clause-serves g c =
-    meets_limit _ (g.R.Read.remaining c.args.reader.now) (g.R.Read.remaining c.loop-read.reader) c.args.server.now c.loop-read.server (g.W.Write.contents c.args.writer.now) (g.W.Write.contents c.loop-read.writer) c.loop-read.feed c.loop-read.invariant.so_far
+    meets_limit _ (g.R.Read.remaining c.args.reader.now) (g.R.Read.remaining c.loop-read.reader)
+    c.args.server.now c.loop-read.server (g.W.Write.contents c.args.writer.now)
+    (g.W.Write.contents c.loop-read.writer) c.loop-read.feed c.loop-read.invariant.so_far

@@ -4,7 +4,7 @@ use Rattle.std.specs.Prelude.{option_map}
 use Rattle.ts_der.specs.Element.{Place, inside}
 use Rattle.ts_shape.specs.Items.{items_at}
 use Rattle.ts_shape.specs.Repeats.{first_repeated, keys_in, is_among}
-use Rattle.ts_shape.specs.Collisions.{AreCollisions, place_of}
+use Rattle.ts_shape.specs.inside.Collisions.{AreCollisions, place_of}
 use Rattle.ts_shape.proofs.FirstRepeats.{none-colliding, next-none, next-met, next-new, collisions-next, seen-end, not-seen}
 use Rattle.ts_shape.proofs.KeyTables.{no-keys, place-in-table, place-absent, none-marked, marked-beside, marked-more, AreMarked}
 use Rattle.std.proofs.lemmas.List.{length-map, length-replicate, length-set}
@@ -17,7 +17,9 @@ front [] = None
 front (x ∷ xs) = Some x
 
 -- what yields an item first yields it again from the same place
-same-again : {T A : Type 0} (view : T → A) (here there : List A) (result : Option T) (x : A) (xs : List A) → YieldsFirstBy view (λ (left : List A). left) here result there → here ≡ x ∷ xs → option_map view result ≡ Some x
+same-again : {T A : Type 0} (view : T → A) (here there : List A) (result : Option T) (x : A)
+    (xs : List A) → YieldsFirstBy view (λ (left : List A). left) here result there → here ≡ x ∷ xs
+    → option_map view result ≡ Some x
 unfolding front
 same-again view here there (Some y) x xs first is = ap front (sym first ∙ is)
 same-again view here there None x xs first is = absurd cc

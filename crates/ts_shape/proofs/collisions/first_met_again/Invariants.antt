@@ -3,7 +3,7 @@ use Rattle.ts_der.specs.Element.{inside}
 use Rattle.ts_der.specs.View.{now}
 use Rattle.ts_shape.specs.Items.{items_at}
 use Rattle.ts_shape.specs.Repeats.{first_repeated, keys_in}
-use Rattle.ts_shape.specs.Collisions.{AreFlagged, AreCollisions}
+use Rattle.ts_shape.specs.inside.Collisions.{AreFlagged, AreCollisions}
 use Rattle.ts_shape.proofs.KeyTables.{AreMarked}
 use Rattle.ts_shape.proofs.collisions.first_met_again.Given as goal
 

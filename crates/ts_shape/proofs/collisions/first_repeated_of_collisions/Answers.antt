@@ -5,7 +5,7 @@ use Rattle.ts_der.specs.Element.{inside}
 use Rattle.ts_der.specs.View.{now}
 use Rattle.ts_shape.specs.Items.{items_at}
 use Rattle.ts_shape.specs.Repeats.{first_repeated, keys_in, AreAscending}
-use Rattle.ts_shape.specs.Collisions.{AreCollisions}
+use Rattle.ts_shape.specs.inside.Collisions.{AreCollisions}
 use Rattle.ts_shape.proofs.FirstRepeats.{seen-end, collisions-in, answered-all}
 use Rattle.ts_shape.proofs.KeyTables.{among-moved}
 use Rattle.ts_shape.proofs.collisions.first_repeated_of_collisions.Goals.{then-is_some-via-then-is_some, then-is_some-via-else-is_some+then-len}
@@ -45,7 +45,10 @@ returns-then-is_some g c =
     let key = g.T.FromElement.key_of in
     let xs = items_at g.T.FromElement.reading (inside (now c.args.list)) in
     elim c.then-is_some.branch [
-      | then-is_some-via-then-is_some w ↦ answered-all key g.T.FromElement.record_of c.first_met_again-found.result c.gather-passed.result xs (sym c.is_some.ensures ∙ w.if-is_some.true) c.first_met_again-found.ensures
+      | then-is_some-via-then-is_some w ↦
+          answered-all key g.T.FromElement.record_of c.first_met_again-found.result
+          c.gather-passed.result xs (sym c.is_some.ensures ∙ w.if-is_some.true)
+          c.first_met_again-found.ensures
       | then-is_some-via-else-is_some+then-len w ↦ (
           let same = length_permutation c.gather-passed.new.table.items c.sort.new.table.items c.sort.ensures.same in
           let few = w.if-len.true in

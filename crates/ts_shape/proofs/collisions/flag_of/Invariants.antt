@@ -1,5 +1,5 @@
 use Rattle.std.proofs.Common.{◌≡◌, drop}
-use Rattle.ts_shape.specs.Collisions.{hash_from}
+use Rattle.ts_shape.specs.inside.Collisions.{hash_from}
 use Rattle.ts_shape.proofs.collisions.flag_of.Given as goal
 
 abbrev pub invariant-loop-octet : goal.invariant-loop-octet

@@ -7,10 +7,13 @@ use Rattle.ts_der.specs.Element.{Place, inside}
 use Rattle.ts_der.specs.View.{now}
 use Rattle.ts_shape.specs.Items.{items_at}
 use Rattle.ts_shape.specs.Repeats.{first_repeated, keys_in, is_among}
-use Rattle.ts_shape.specs.Collisions.{AreFlagged, AreCollisions, flag_of}
+use Rattle.ts_shape.specs.inside.Collisions.{AreFlagged, AreCollisions, flag_of}
 use Rattle.ts_shape.proofs.FirstRepeats.{seen_after, after-more, no-collisions, collisions-more, collisions-in, distinct-next, front-fewer, among-last, among-more, walk-length}
 use Rattle.ts_shape.proofs.KeyTables.{flag-new, flag-more}
-use Rattle.ts_shape.proofs.collisions.gather.Goals.{then-known-passed+then-seen-flag, else-known-passed, else-known-passed-via-then-known-passed+else-seen-flag, else-known-passed-via-else-known-passed}
+use Rattle.ts_shape.proofs.collisions.gather.Goals.{then-known-passed+then-seen-flag}
+use Rattle.ts_shape.proofs.collisions.gather.Goals.{else-known-passed}
+use Rattle.ts_shape.proofs.collisions.gather.Goals.{else-known-passed-via-then-known-passed+else-seen-flag}
+use Rattle.ts_shape.proofs.collisions.gather.Goals.{else-known-passed-via-else-known-passed}
 use Rattle.ts_shape.proofs.collisions.gather.Goals as goal
 
 pub loop-items-init : goal.loop-items-init
@@ -69,7 +72,10 @@ loop-items-preserved g c =
       | else-known-passed w ↦ (
           let new : is_among (key x) seen ≡ false =
           elim w.else-known-passed.branch [
-            | else-known-passed-via-then-known-passed+else-seen-flag w' ↦ flag-new (flag_of g.row.M c.args.factor) c.loop-items.seen (key x) seen i.4 (ap (λ (n : ℕ). get_or c.loop-items.seen n false) (sym flag) ∙ w'.if-seen-flag.false)
+            | else-known-passed-via-then-known-passed+else-seen-flag w' ↦
+                flag-new (flag_of g.row.M c.args.factor) c.loop-items.seen (key x) seen i.4
+                (ap (λ (n : ℕ). get_or c.loop-items.seen n false) (sym flag)
+                ∙ w'.if-seen-flag.false)
             | else-known-passed-via-else-known-passed w' ↦ distinct.0 (let front = w'.if-known-passed.false in omega arith)
           ] in
           let same : keys_in c.if-known-passed.table.items ≡ old = ap (λ t. keys_in t.items) w.table-is in
@@ -83,7 +89,13 @@ loop-items-preserved g c =
       i.1 ∙ ap (λ (ys : List g.T.FromElement.Record). i.0 ++ ys) c.in-Some.ensures.steps ∙ sym (append_assoc i.0 (x ∷ []) (items_at g.T.FromElement.reading c.next.new.self.rest)),
       (let length_now = i.2 in simp length_push (omega arith)),
       length-set c.loop-items.seen c.flag_of-flag.result true ∙ i.3,
-      subst (λ (keys : List (List ℕ)). AreFlagged g.row.M c.args.factor (set c.loop-items.seen c.flag_of-flag.result true) keys) (sym after) (get_or-set_at c.loop-items.seen c.flag_of-flag.result (flag_of g.row.M c.args.factor (key x)) true false (sym flag) lt, flag-more (flag_of g.row.M c.args.factor) c.loop-items.seen c.flag_of-flag.result seen lt i.4),
+      subst (λ (keys : List (List ℕ)). AreFlagged g.row.M c.args.factor
+          (set c.loop-items.seen c.flag_of-flag.result true) keys) (sym after) (
+            get_or-set_at c.loop-items.seen c.flag_of-flag.result
+                (flag_of g.row.M c.args.factor (key x)) true false (sym flag) lt,
+            flag-more
+                (flag_of g.row.M c.args.factor) c.loop-items.seen c.flag_of-flag.result seen lt i.4,
+          ),
       kept.0,
       subst (λ (keys : List (List ℕ)). first_repeated key keys (take (c.args.known - (c.loop-items.passed + 1)) (items_at g.T.FromElement.reading c.next.new.self.rest)) ≡ None) (sym after) distinct.1,
       kept.1,

@@ -1,6 +1,6 @@
 use Rattle.std.proofs.Common.{◌<◌, ◌∙◌, true, length, arith}
 use Rattle.std.proofs.lemmas.List.{length-set}
-use Rattle.ts_shape.specs.Collisions.{flag_of}
+use Rattle.ts_shape.specs.inside.Collisions.{flag_of}
 use Rattle.ts_shape.proofs.KeyTables.{flagged-next}
 use Rattle.ts_shape.proofs.collisions.set_flags.Goals as goal
 

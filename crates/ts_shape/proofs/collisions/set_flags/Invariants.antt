@@ -1,6 +1,6 @@
 use Rattle.std.proofs.Common.{◌≡◌, length, take}
 use Rattle.ts_shape.specs.Repeats.{keys_in}
-use Rattle.ts_shape.specs.Collisions.{AreFlagged}
+use Rattle.ts_shape.specs.inside.Collisions.{AreFlagged}
 use Rattle.ts_shape.proofs.collisions.set_flags.Given as goal
 
 abbrev pub invariant-loop-key : goal.invariant-loop-key

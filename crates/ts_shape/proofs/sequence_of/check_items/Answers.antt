@@ -14,7 +14,9 @@ returns-in_err-next_item g c =
     let value = g.T.FromElement.reading in
     let p = err_from_is_err_and c.from_residual.result c.from_residual.ensures.1 in
     let i = c.loop-rest.invariant in
-    let total = breaks_off (each value) (each-consumes value) i.0 c.loop-rest.rest c.in_err-next_item.field-0.0 (many (each value) (inside (now c.args.element))) (sym c.is_at_end.ensures ∙ c.loop-rest-test.true) c.in_err-next_item.ensures i.1 in
+    let total = breaks_off (each value) (each-consumes value) i.0 c.loop-rest.rest
+    c.in_err-next_item.field-0.0 (many (each value) (inside (now c.args.element)))
+    (sym c.is_at_end.ensures ∙ c.loop-rest-test.true) c.in_err-next_item.ensures i.1 in
     rw (p.1, p.2, total) refl
 
 pub loop-rest-smaller : goal.loop-rest-smaller
@@ -24,8 +26,12 @@ pub loop-rest-preserved : goal.loop-rest-preserved
 loop-rest-preserved g c =
     let value = g.T.FromElement.reading in
     let i = c.loop-rest.invariant in
-    let x = g.T.FromElement.record_of c.in_ok-next_item.field-0 in
-    (i.0 ++ x ∷ [], goes_on (each value) (each-consumes value) i.0 c.loop-rest.rest x c.next_item.new.rest (many (each value) (inside (now c.args.element))) (sym c.is_at_end.ensures ∙ c.loop-rest-test.true) c.in_ok-next_item.ensures i.1)
+    let x = g.T.FromElement.record_of c.in_ok-next_item.field-0 in (
+      i.0 ++ x ∷ [],
+      goes_on (each value) (each-consumes value) i.0 c.loop-rest.rest x
+          c.next_item.new.rest (many (each value) (inside (now c.args.element)))
+          (sym c.is_at_end.ensures ∙ c.loop-rest-test.true) c.in_ok-next_item.ensures i.1,
+    )
 
 pub returns-then-is_empty : goal.returns-then-is_empty
 returns-then-is_empty g c =

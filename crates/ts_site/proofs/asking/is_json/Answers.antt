@@ -1,7 +1,7 @@
 -- The first octet that is left decides.
 use Rattle.std.proofs.Common.{◌∙◌, ap, sym}
 use Rattle.std.proofs.lemmas.List.{at_drop_more, drop_all}
-use Rattle.ts_site.specs.Asking.{is_json}
+use Rattle.ts_site.specs.inside.Asking.{is_json}
 use Rattle.ts_site.proofs.Bodies.{begins, ends, goes_on}
 use Rattle.ts_site.proofs.asking.is_json.Goals as goal
 

@@ -1,6 +1,6 @@
 -- What is left begins as the body does.
 use Rattle.std.proofs.Common.{◌≡◌, drop}
-use Rattle.ts_site.specs.Asking.{is_json}
+use Rattle.ts_site.specs.inside.Asking.{is_json}
 use Rattle.ts_site.proofs.asking.is_json.Given as goal
 
 abbrev pub invariant-loop-octet : goal.invariant-loop-octet

@@ -1,7 +1,7 @@
 -- The query, and then the body.
 use Rattle.std.proofs.Common.{rules, ◌≡◌, map}
 use Rattle.ts_form.specs.Pairs.{pair_in}
-use Rattle.ts_site.specs.Asking.{pairs_in}
+use Rattle.ts_site.specs.inside.Asking.{pairs_in}
 use Rattle.ts_site.proofs.Bodies.{body_refused, body_says, query_refused}
 use Rattle.ts_site.proofs.asking.wanted_of.Goals as goal
 

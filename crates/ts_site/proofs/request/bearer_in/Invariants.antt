@@ -2,7 +2,7 @@
 use Rattle.std.proofs.Common.{◌≡◌, drop, map}
 use Rattle.std.specs.Prelude.{fold}
 use Rattle.ts_http.specs.Request.{field_in}
-use Rattle.ts_site.specs.Request.{bearer_in, with_field}
+use Rattle.ts_site.specs.inside.Request.{bearer_in, with_field}
 use Rattle.ts_site.proofs.request.bearer_in.Given as goal
 
 abbrev pub invariant-loop-field : goal.invariant-loop-field

@@ -1,7 +1,7 @@
 -- All behind the mark is taken.
 use Rattle.std.proofs.Common.{◌∙◌, ◌+◌, ap, sym, take, drop, Option, ℕ, length-drop}
 use Rattle.std.proofs.Math.Seq.{take-length}
-use Rattle.ts_site.specs.Request.{after}
+use Rattle.ts_site.specs.inside.Request.{after}
 use Rattle.ts_site.proofs.request.query_of.Goals as goal
 
 pub returns-in-Some : goal.returns-in-Some

@@ -9,4 +9,6 @@ returns-then-len-ge-MAX_CRLS-clause-done c =
 
 pub returns-clause-done : goal.returns-clause-done
 returns-clause-done c =
-    is-last c.args.new c.args.lists.now.items c.push.new.self.items c.requires (lt-leb 1024 (length c.args.lists.now.items) (omega (arith, c.if-len-ge-MAX_CRLS.false, c.len.ensures))) c.in_ok-push.ensures.items
+    is-last c.args.new c.args.lists.now.items c.push.new.self.items c.requires
+    (lt-leb 1024 (length c.args.lists.now.items)
+    (omega (arith, c.if-len-ge-MAX_CRLS.false, c.len.ensures))) c.in_ok-push.ensures.items

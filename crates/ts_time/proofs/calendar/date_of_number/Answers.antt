@@ -8,7 +8,15 @@ pub returns-in_err-date-clause-none : goal.returns-in_err-date-clause-none
 returns-in_err-date-clause-none c =
     let epoch : epoch_day c.to_plain-epoch.result ≡ pos 0 = ap epoch_day c.to_plain-epoch.ensures ∙ epoch_day-IsYmd 1970 1 1 c.date.result c.date.ensures ∙ day_number-epoch in
     let refused : IsOk c.checked_add.result → ⊥ = λ ok. cc (c.in_err-date.ensures.variant) in
-    rw c.from_residual.ensures (λ some. cc, λ h. absurd (refused (c.checked_add.ensures.succeeds.1 (omega (arith, ints, h.0, h.1, year_0_bound, year_10000, epoch), omega (arith, ints, h.0, h.1, year_0_bound, year_10000, epoch)))))
+    rw c.from_residual.ensures (
+      λ some. cc,
+      λ h. absurd
+          (refused (c.checked_add.ensures.succeeds.1 (
+            omega (arith, ints, h.0, h.1, year_0_bound, year_10000, epoch),
+            omega
+                (arith, ints, h.0, h.1, year_0_bound, year_10000, epoch),
+          ))),
+    )
 
 pub returns-then-date-lt0-clause-none : goal.returns-then-date-lt0-clause-none
 returns-then-date-lt0-clause-none c =

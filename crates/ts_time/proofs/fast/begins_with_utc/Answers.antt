@@ -34,8 +34,12 @@ pub returns-then-day-le28 : goal.returns-then-day-le28
 returns-then-day-le28 c = (
   (λ h. (
     c.if-octets-lt16.false,
-    utc-between c.args.octets.now c.number_of-month.result c.number_of-day.result c.number_of-hour.result (sym c.lie_between.ensures ∙ c.if-not-lie_between.false) c.number_of-month.ensures c.number_of-day.ensures c.number_of-hour.ensures
-        c.if-month-lt1.false c.if-month-gt12.false c.if-day-lt1.false (λ yy is. let days = twenty-eight (year_of_two yy) c.number_of-month.result in let few = c.if-day-le28.true in omega arith) c.if-hour-gt23.false,
+    utc-between c.args.octets.now c.number_of-month.result c.number_of-day.result
+        c.number_of-hour.result (sym c.lie_between.ensures ∙ c.if-not-lie_between.false)
+        c.number_of-month.ensures c.number_of-day.ensures c.number_of-hour.ensures
+        c.if-month-lt1.false c.if-month-gt12.false c.if-day-lt1.false
+        (λ yy is. let days = twenty-eight (year_of_two yy) c.number_of-month.result in let few =
+        c.if-day-le28.true in omega arith) c.if-hour-gt23.false,
   )),
   (λ h. le-leb c.number_of-day.result 28 c.if-day-le28.true),
 )
@@ -44,8 +48,12 @@ pub returns-else-day-le28 : goal.returns-else-day-le28
 returns-else-day-le28 c = (
   (λ h. (
     c.if-octets-lt16.false,
-    utc-between c.args.octets.now c.number_of-month.result c.number_of-day.result c.number_of-hour.result (sym c.lie_between.ensures ∙ c.if-not-lie_between.false) c.number_of-month.ensures c.number_of-day.ensures c.number_of-hour.ensures
-        c.if-month-lt1.false c.if-month-gt12.false c.if-day-lt1.false (λ yy is. rw (is ∙ sym c.number_of.ensures, ← c.days_of.ensures) (leb-true c.number_of-day.result c.days_of.result h)) c.if-hour-gt23.false,
+    utc-between c.args.octets.now c.number_of-month.result c.number_of-day.result
+        c.number_of-hour.result (sym c.lie_between.ensures ∙ c.if-not-lie_between.false)
+        c.number_of-month.ensures c.number_of-day.ensures c.number_of-hour.ensures
+        c.if-month-lt1.false c.if-month-gt12.false c.if-day-lt1.false
+        (λ yy is. rw (is ∙ sym c.number_of.ensures, ← c.days_of.ensures)
+        (leb-true c.number_of-day.result c.days_of.result h)) c.if-hour-gt23.false,
   )),
   (λ h.
       let told = utc-told c.args.octets.now h.1.0 h.0 (λ i. omega (arith, c.type_inv.octets i)) h.1.1 in

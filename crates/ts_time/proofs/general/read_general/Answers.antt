@@ -1,5 +1,5 @@
 use Rattle.std.proofs.Common.{refl}
-use Rattle.ts_time.specs.Reading.{general_in}
+use Rattle.ts_time.specs.Reading.{generalized_time_in}
 use Rattle.ts_time.specs.Text.{IsGeneral}
 use Rattle.ts_time.proofs.ReadingLemmas.{same_answer, general_in-found, general_in-only}
 use Rattle.ts_time.proofs.TextLemmas.{ok_or-only}
@@ -15,5 +15,7 @@ returns-clause-fault c =
 pub returns-clause-exact : goal.returns-clause-exact
 returns-clause-exact c =
     let content = c.args.content.now in
-    let same = same_answer c.find_general.result (general_in content) (IsGeneral content) c.find_general.ensures.found c.find_general.ensures.only (general_in-found content) (general_in-only content) in
+    let same = same_answer c.find_general.result (generalized_time_in content)
+    (IsGeneral content) c.find_general.ensures.found c.find_general.ensures.only
+    (general_in-found content) (general_in-only content) in
     rw (c.ok_or.ensures.value, same) refl

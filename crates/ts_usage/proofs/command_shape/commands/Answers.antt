@@ -11,4 +11,4 @@ returns c =
     let load = c.among-all-3.ensures _ _ withdraw c.load.ensures.shape in
     let drop_list = c.among-all-4.ensures _ _ load c.naming-2.ensures.shape in
     let purposes = c.among-all-5.ensures _ _ drop_list c.purposes.ensures.shape in
-    c.among.ensures _ _ purposes c.leaf.ensures.shape
+    c.command_of.ensures _ (c.among.ensures _ _ purposes c.leaf.ensures.shape)

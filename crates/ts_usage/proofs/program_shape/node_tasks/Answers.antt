@@ -4,7 +4,7 @@ use Rattle.ts_usage.proofs.program_shape.node_tasks.Goals as goal
 pub returns : goal.returns
 unfolding node_tasks lab
 returns c =
-    let lab = c.among-program.ensures _ _ (c.versioned-program.ensures _ c.choice.ensures) c.leaf.ensures.shape in
+    let lab = c.among-program.ensures _ _ (c.with_version-program.ensures _ c.choice.ensures) c.leaf.ensures.shape in
     let format = c.among-program-2.ensures _ _ lab c.format.ensures.shape in
     let migrate = c.among-program-3.ensures _ _ format c.migrate.ensures.shape in
     let serve = c.among-program-4.ensures _ _ migrate c.serve.ensures.shape in

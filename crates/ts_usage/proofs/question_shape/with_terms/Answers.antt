@@ -1,11 +1,10 @@
-use Rattle.std.proofs.Common.{◌∙◌, ap}
-use Rattle.ts_usage.specs.Shapes.{needed, with_terms}
+use Rattle.ts_usage.specs.Shapes.{with_terms}
 use Rattle.ts_usage.proofs.question_shape.with_terms.Goals as goal
 
 pub returns-clause-shape : goal.returns-clause-shape
 unfolding with_terms
 returns-clause-shape c shape given =
-    let at = c.with-all.ensures.shape _ _ (c.needed.ensures.rule ∙ ap needed c.option-at.ensures.rule) given in
+    let at = c.with-all.ensures.shape _ _ (c.mandatory.ensures.rule _ c.option-at.ensures.rule) given in
     let k = c.with.ensures.shape _ _ c.option.ensures.rule at in
     let flags = c.with_flags-all.ensures.shape _ k in
     let policy = c.with-all-2.ensures.shape _ _ c.options.ensures.rule flags in

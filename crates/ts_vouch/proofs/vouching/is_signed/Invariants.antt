@@ -7,4 +7,7 @@ use Rattle.ts_vouch.specs.Vouched.{has_signed}
 use Rattle.ts_vouch.proofs.vouching.is_signed.Given as goal
 
 abbrev pub invariant-loop-issuer : goal.invariant-loop-issuer
-invariant-loop-issuer g l = list_any (has_signed (g.S.SignatureCheck.accepts l.check) (crl_in l.crl)) (map cert_in (drop l.issuer-index l.issuers)) ≡ list_any (has_signed (g.S.SignatureCheck.accepts l.check) (crl_in l.crl)) (map cert_in l.issuers)
+invariant-loop-issuer g l =
+    list_any (has_signed (g.S.SignatureCheck.accepts l.check) (crl_in l.crl))
+    (map cert_in (drop l.issuer-index l.issuers)) ≡ list_any
+    (has_signed (g.S.SignatureCheck.accepts l.check) (crl_in l.crl)) (map cert_in l.issuers)

@@ -9,4 +9,6 @@ returns-in-Ok c =
 
 pub returns-in-Err-frame_of : goal.returns-in-Err-frame_of
 returns-in-Err-frame_of c =
-    first_fault c.args.octets.now c.in-Ok-Some.size c.in-Err-frame_of.fault (λ i. omega (arith, c.type_inv.octets i)) (rw c.in-Ok-Some.field-0-is at c.in-Ok-Some.ensures) (rw take_rest at c.in-Err-frame_of.ensures)
+    first_fault c.args.octets.now c.in-Ok-Some.size c.in-Err-frame_of.fault
+    (λ i. omega (arith, c.type_inv.octets i)) (rw c.in-Ok-Some.field-0-is at c.in-Ok-Some.ensures)
+    (rw take_rest at c.in-Err-frame_of.ensures)

@@ -25,7 +25,9 @@ returns-in_ok-recover_vote-in-Took-clause-state g c = λ facts h.
     let took = Took q b c.in-Took.command in
     let after = c.in_ok-recover_vote-in-Took.ensures in
     subst (λ f. StandsFor c.recover_vote.new.self (facts ++ f ∷ [])) (sym c.in-Took.is) (record {
-      promised = subst (λ m. HasBallots m (facts ++ took ∷ [])) (sym after.promised) (ballots_put a.promised c.insert-in-Took.new.self facts took q b c.max-promised.result h.promised (λ p. refl) e c.in_ok-insert-in-Took.ensures.updates.0);
+      promised = subst (λ m. HasBallots m (facts ++ took ∷ [])) (sym after.promised)
+          (ballots_put a.promised c.insert-in-Took.new.self facts took q b c.max-promised.result
+          h.promised (λ p. refl) e c.in_ok-insert-in-Took.ensures.updates.0);
       taken = after.votes facts h.taken;
     })
 

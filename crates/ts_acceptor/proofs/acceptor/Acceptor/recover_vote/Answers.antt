@@ -16,4 +16,6 @@ returns-clause-votes g c = λ facts h.
     let b = c.args.ballot in
     let q = c.args.position in
     let up : IsAbove b (taken_at a q) = elim c.match-taken.branch [ in-Some+else-ballot-vote w ↦ search rules | in_default w ↦ search rules ] in
-    subst (λ d. HasVotes c.insert.new.self (facts ++ Took q b d ∷ [])) c.in_ok-try_copy.ensures.copy (votes_recovered a.taken c.insert.new.self facts q b c.in_ok-try_copy.field-0 h up c.in_ok-insert.ensures.updates.0)
+    subst (λ d. HasVotes c.insert.new.self (facts ++ Took q b d ∷ [])) c.in_ok-try_copy.ensures.copy
+    (votes_recovered a.taken c.insert.new.self facts q b c.in_ok-try_copy.field-0 h up
+    c.in_ok-insert.ensures.updates.0)

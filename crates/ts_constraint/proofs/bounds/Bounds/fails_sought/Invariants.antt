@@ -1,6 +1,6 @@
 use Rattle.std.proofs.Common.{◌↔◌, length}
 use Rattle.ts_constraint.specs.Conditions.{Some_of, FailsAt}
-use Rattle.ts_constraint.specs.Sought.{name_in}
+use Rattle.ts_constraint.specs.inside.Sought.{name_in}
 use Rattle.ts_constraint.proofs.bounds.Bounds.fails_sought.Given as goal
 
 abbrev pub invariant-loop-rest : goal.invariant-loop-rest

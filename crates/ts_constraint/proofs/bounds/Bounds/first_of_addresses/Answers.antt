@@ -2,7 +2,7 @@ use Rattle.std.proofs.Common.{◌≡◌, List, [], ◌∷◌, ◌++◌, Some, sy
 use Rattle.ts_name.specs.Canon.{Attr}
 use Rattle.ts_name.specs.General.{GeneralName}
 use Rattle.ts_name.specs.NameView.{attributes_in, rdns_in}
-use Rattle.ts_constraint.specs.Conditions.{Fails, Meets, FailsFirst}
+use Rattle.ts_constraint.specs.Conditions.{NameFails, EachNameMeets, FirstNameFails}
 use Rattle.ts_constraint.specs.Names.{addresses_of}
 use Rattle.ts_constraint.proofs.Lists.{first-after, first-before, none-append}
 use Rattle.ts_constraint.proofs.Shown.{joined, goes, addresses-at}
@@ -17,7 +17,7 @@ returns-in-Some-first_of_rdn c =
     let all = i.3 ∙ ap (λ (xs : List (List Attr)). i.2 ++ xs) c.in-Some.ensures.steps in
     let names : addresses_of (joined (rdns_in c.args.subject)) ≡ addresses_of (joined i.2) ++ (addresses_of r ++ addresses_of (joined rest)) =
     ap (λ (xs : List (List Attr)). addresses_of (joined xs)) all ∙ addresses-at i.2 rest r in
-    subst (λ (xs : List GeneralName). FailsFirst c.args.condition c.args.self.now xs form) (sym names)
+    subst (λ (xs : List GeneralName). FirstNameFails c.args.condition c.args.self.now xs form) (sym names)
     (first-after c.args.condition c.args.self.now (addresses_of (joined i.2)) (addresses_of r ++ addresses_of (joined rest)) (Some form) i.4
     (first-before c.args.condition c.args.self.now (addresses_of r) (addresses_of (joined rest)) form c.in-Some-first_of_rdn.ensures))
 
@@ -32,6 +32,6 @@ loop-rdn-preserved c =
       tt,
       i.2 ++ r ∷ [],
       goes (rdns_in c.args.subject) i.2 _ r all,
-      subst (λ (xs : List GeneralName). Meets c.args.condition c.args.self.now xs) (sym names)
-          (none-append (Fails c.args.condition c.args.self.now) (addresses_of (joined i.2)) (addresses_of r) i.4 c.in_default.ensures),
+      subst (λ (xs : List GeneralName). EachNameMeets c.args.condition c.args.self.now xs) (sym names)
+          (none-append (NameFails c.args.condition c.args.self.now) (addresses_of (joined i.2)) (addresses_of r) i.4 c.in_default.ensures),
     )

@@ -4,7 +4,7 @@ use Rattle.ts_name.specs.Canon.{Attr}
 use Rattle.ts_name.specs.General.{GeneralName, rfc822Name}
 use Rattle.ts_name.specs.NameView.{attributes_in}
 use Rattle.ts_name.specs.View.{attr_of}
-use Rattle.ts_constraint.specs.Conditions.{Meets}
+use Rattle.ts_constraint.specs.Conditions.{EachNameMeets}
 use Rattle.ts_constraint.specs.Names.{addresses_of}
 use Rattle.ts_constraint.proofs.Lists.{first-here, meets-more}
 use Rattle.ts_constraint.proofs.Shown.{goes, addresses-append, no-address, an-address, address-at}
@@ -17,7 +17,7 @@ loop-attribute-preserved-then-not-is_address c =
     let all = i.3 ∙ ap (λ (xs : List Attr). i.2 ++ xs) c.in-Some.ensures.steps in
     let none : addresses_of (i.2 ++ x ∷ []) ≡ addresses_of i.2 =
     addresses-append i.2 (x ∷ []) ∙ (ap (λ (xs : List GeneralName). addresses_of i.2 ++ xs) (no-address x c.if-not-is_address.ensures) ∙ append-nil (addresses_of i.2)) in
-    (tt, tt, i.2 ++ x ∷ [], goes (attributes_in c.args.rdn) i.2 _ x all, subst (λ (xs : List GeneralName). Meets c.args.condition c.args.self.now xs) (sym none) i.4)
+    (tt, tt, i.2 ++ x ∷ [], goes (attributes_in c.args.rdn) i.2 _ x all, subst (λ (xs : List GeneralName). EachNameMeets c.args.condition c.args.self.now xs) (sym none) i.4)
 
 pub loop-attribute-preserved : goal.loop-attribute-preserved
 loop-attribute-preserved c =
@@ -30,7 +30,7 @@ loop-attribute-preserved c =
       tt,
       i.2 ++ x ∷ [],
       goes (attributes_in c.args.rdn) i.2 _ x all,
-      subst (λ (xs : List GeneralName). Meets c.args.condition c.args.self.now xs) (sym one)
+      subst (λ (xs : List GeneralName). EachNameMeets c.args.condition c.args.self.now xs) (sym one)
           (meets-more c.args.condition c.args.self.now (addresses_of i.2) (rfc822Name x.value) i.4 (λ f. false≢true (c.if-fails.ensures.1 f))),
     )
 

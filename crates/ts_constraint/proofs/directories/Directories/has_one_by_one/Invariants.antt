@@ -1,7 +1,7 @@
 use Rattle.std.proofs.Common.{◌≡◌, length}
 use Rattle.ts_name.specs.NameView.{rdns_in}
 use Rattle.ts_name.specs.Sameness.{canon_name}
-use Rattle.ts_constraint.specs.Directories.{has_directory}
+use Rattle.ts_constraint.specs.inside.Directories.{has_directory}
 use Rattle.ts_constraint.proofs.directories.Directories.has_one_by_one.Given as goal
 
 abbrev pub invariant-loop-rest : goal.invariant-loop-rest

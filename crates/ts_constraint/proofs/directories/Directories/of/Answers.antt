@@ -1,5 +1,5 @@
 use Rattle.ts_name.specs.Sameness.{canon_name}
-use Rattle.ts_constraint.specs.Directories.{form_in}
+use Rattle.ts_constraint.specs.inside.Directories.{form_in}
 use Rattle.ts_constraint.specs.View.{bases_in}
 use Rattle.ts_constraint.proofs.Tables.{by-names}
 use Rattle.ts_constraint.proofs.directories.Directories.of.Goals as goal

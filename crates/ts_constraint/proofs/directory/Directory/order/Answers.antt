@@ -4,7 +4,7 @@ use Rattle.ts_name.specs.Canon.{CanonAttr}
 use Rattle.ts_name.specs.CanonView.{rdns_in as canon_in}
 use Rattle.ts_name.specs.NameView.{rdns_in}
 use Rattle.ts_name.specs.Sameness.{canon_name}
-use Rattle.ts_constraint.specs.Directory.{compare_rdns}
+use Rattle.ts_constraint.specs.inside.Directory.{compare_rdns}
 use Rattle.ts_constraint.proofs.DirectoryForms.{canon-order}
 use Rattle.ts_constraint.proofs.directory.Directory.order.Goals as goal
 

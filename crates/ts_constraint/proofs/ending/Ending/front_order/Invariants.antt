@@ -1,7 +1,7 @@
 use Rattle.std.proofs.Common.{◌≡◌, length}
 use Rattle.std.specs.Ordering.{nat_cmp}
-use Rattle.ts_constraint.specs.Ending.{octets}
-use Rattle.ts_constraint.specs.Fronts.{front_cmp}
+use Rattle.ts_constraint.specs.inside.Ending.{octets}
+use Rattle.ts_constraint.specs.inside.Fronts.{front_cmp}
 use Rattle.ts_constraint.proofs.ending.Ending.front_order.Given as goal
 
 abbrev pub invariant-loop-octet : goal.invariant-loop-octet

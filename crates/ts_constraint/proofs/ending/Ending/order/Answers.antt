@@ -1,8 +1,8 @@
 use Rattle.std.proofs.Common.{◌≡◌, ap, ◌∙◌, Ordering}
 use Rattle.std.specs.Ordering.{nat_cmp, ordering_then, ordering_reverse}
 use Rattle.std.proofs.lemmas.Cmp.{nat_cmp_total}
-use Rattle.ts_constraint.specs.Ending.{octets}
-use Rattle.ts_constraint.specs.Fronts.{front_cmp}
+use Rattle.ts_constraint.specs.inside.Ending.{octets}
+use Rattle.ts_constraint.specs.inside.Fronts.{front_cmp}
 use Rattle.ts_constraint.proofs.Fronts.{by-fronts}
 use Rattle.ts_constraint.proofs.ending.Ending.order.Goals as goal
 

@@ -1,5 +1,5 @@
 use Rattle.std.proofs.Common.{◌≡◌, ℕ, ◌-◌, ◌∷◌, length, take, ap, sym, ◌∙◌}
-use Rattle.ts_constraint.specs.Ending.{octets, backwards}
+use Rattle.ts_constraint.specs.inside.Ending.{octets, backwards}
 use Rattle.ts_constraint.proofs.Backwards.{last-first, empty-dotted, empty-plain}
 use Rattle.ts_constraint.proofs.ending.Ending.take.Goals as goal
 

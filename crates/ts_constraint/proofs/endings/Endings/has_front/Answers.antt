@@ -3,8 +3,8 @@ use Rattle.std.specs.Ordering.{nat_cmp}
 use Rattle.std.proofs.lemmas.Cmp.{nat_cmp_total}
 use Rattle.std.proofs.lemmas.Fn.{always_returns_same}
 use Rattle.ts_constraint.specs.declared.ending.Ending.{Ending}
-use Rattle.ts_constraint.specs.Ending.{octets}
-use Rattle.ts_constraint.specs.Fronts.{front_cmp, has_front, AreApart}
+use Rattle.ts_constraint.specs.inside.Ending.{octets}
+use Rattle.ts_constraint.specs.inside.Fronts.{front_cmp, has_front, AreApart}
 use Rattle.ts_constraint.proofs.Fronts.{found}
 use Rattle.ts_constraint.proofs.endings.Endings.has_front.Goals as goal
 

@@ -1,6 +1,6 @@
 use Rattle.std.proofs.Common.{refl}
-use Rattle.ts_constraint.specs.Ending.{octets}
-use Rattle.ts_constraint.specs.Hosts.{domain_endings, dotted_endings}
+use Rattle.ts_constraint.specs.inside.Ending.{octets}
+use Rattle.ts_constraint.specs.inside.Hosts.{domain_endings, dotted_endings}
 use Rattle.ts_constraint.specs.View.{bases_in}
 use Rattle.ts_constraint.proofs.DomainEnds.{table, by-tables}
 use Rattle.ts_constraint.proofs.hosts.Hosts.new.Goals as goal

@@ -1,7 +1,7 @@
 use Rattle.std.proofs.Common.{◌≡◌, ◌↔◌, IsTrue, List, sym, ap, subst, ◌∙◌, arith}
 use Rattle.ts_name.specs.General.{GeneralName}
-use Rattle.ts_constraint.specs.RangeTable.{LiesIn}
-use Rattle.ts_constraint.specs.Ranges.{is_in_one, number}
+use Rattle.ts_constraint.specs.inside.RangeTable.{LiesIn}
+use Rattle.ts_constraint.specs.inside.Ranges.{is_in_one, number}
 use Rattle.ts_constraint.specs.View.{bases_in}
 use Rattle.ts_constraint.proofs.DomainEnds.{along}
 use Rattle.ts_constraint.proofs.RangeTables.{other-found}

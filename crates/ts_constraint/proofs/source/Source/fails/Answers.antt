@@ -4,7 +4,7 @@ use Rattle.ts_name.specs.Holds.{Holds}
 use Rattle.ts_constraint.specs.declared.condition.Condition.{Condition}
 use Rattle.ts_constraint.specs.Conditions.{Some_of, FailsAt}
 use Rattle.ts_constraint.specs.Source.{Source}
-use Rattle.ts_constraint.specs.Sought.{name_in}
+use Rattle.ts_constraint.specs.inside.Sought.{name_in}
 use Rattle.ts_constraint.proofs.source.Source.fails.Goals as goal
 
 pub returns-in-Supported : goal.returns-in-Supported

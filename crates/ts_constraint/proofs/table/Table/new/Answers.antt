@@ -1,7 +1,7 @@
 use Rattle.std.proofs.Common.{◌≡◌, List, ap, subst}
 use Rattle.ts_name.specs.General.{GeneralName}
-use Rattle.ts_constraint.specs.RangeTable.{AreRanges}
-use Rattle.ts_constraint.specs.Table.{AreForms, AreHosts, AreDirectories}
+use Rattle.ts_constraint.specs.inside.RangeTable.{AreRanges}
+use Rattle.ts_constraint.specs.inside.Table.{AreForms, AreHosts, AreDirectories}
 use Rattle.ts_constraint.specs.View.{bases_in}
 use Rattle.ts_constraint.proofs.table.Table.new.Goals as goal
 

@@ -1,5 +1,5 @@
 use Rattle.std.proofs.Common.{◌≤◌, length, ap, sym, ◌∙◌, arith}
-use Rattle.ts_disk.specs.Disk.{written}
+use Rattle.ts_disk.specs.Disk.{overwrite}
 use Rattle.ts_disk.specs.Past.{history}
 use Rattle.ts_disk.specs.Replays.{write_same, writes, torn_written}
 use Rattle.ts_disk.proofs.memory.MemDiskDisk.write_at.Goals as goal
@@ -14,7 +14,7 @@ invariant_of-self-in-Ok c =
     let later = ap (λ cs. (history m.first.items cs).read) kept.2 ∙ write_same m.first.items m.calls.items c.args.at kept.0 within in
     record {
       bounded = omega (arith, ap length c.in-Ok.ensures.written, torn.no_longer, m.bounded, c.if-octets-at.false);
-      replayed = c.in-Ok.ensures.written ∙ ap (λ o. written o c.args.at c.args.octets.now) m.replayed ∙ ap (λ n. written past.read c.args.at n) (sym kept.1) ∙ sym later;
+      replayed = c.in-Ok.ensures.written ∙ ap (λ o. overwrite o c.args.at c.args.octets.now) m.replayed ∙ ap (λ n. overwrite past.read c.args.at n) (sym kept.1) ∙ sym later;
     }
 
 pub returns-in-Ok-clause-call : goal.returns-in-Ok-clause-call

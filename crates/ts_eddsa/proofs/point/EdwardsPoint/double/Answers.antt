@@ -7,7 +7,7 @@ unfolding double
 returns c =
     rw (
       ← c.self.view_is,
-      c.completed.ensures,
+      c.completion.ensures,
       c.sum-f.ensures,
       c.difference-e.ensures,
       c.product-square.ensures,

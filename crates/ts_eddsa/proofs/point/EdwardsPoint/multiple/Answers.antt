@@ -3,7 +3,7 @@ use Rattle.std.proofs.lemmas.Bool.{cases_eq, ne_eqb, eq-eqb}
 use Rattle.ts_curve.specs.Four.{number4}
 use Rattle.ts_curve.proofs.Bits.{shift_step, shift_end, pow_pos}
 use Rattle.ts_eddsa.specs.Points.{double, multiple}
-use Rattle.ts_eddsa.specs.Addend.{sum_by}
+use Rattle.ts_eddsa.specs.inside.Addend.{sum_by}
 use Rattle.ts_eddsa.proofs.Multiple.{multiple_even, multiple_odd, multiple_none}
 use Rattle.ts_eddsa.proofs.point.EdwardsPoint.multiple.Goals as goal
 

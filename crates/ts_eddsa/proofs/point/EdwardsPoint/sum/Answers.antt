@@ -1,5 +1,5 @@
 use Rattle.std.proofs.Common.{refl}
-use Rattle.ts_eddsa.specs.Addend.{sum_by}
+use Rattle.ts_eddsa.specs.inside.Addend.{sum_by}
 use Rattle.ts_eddsa.proofs.point.EdwardsPoint.sum.Goals as goal
 
 pub returns : goal.returns
@@ -8,7 +8,7 @@ returns c =
     rw (
       ← c.self.view_is,
       ← c.other.view_is,
-      c.completed.ensures,
+      c.completion.ensures,
       c.sum-h.ensures,
       c.sum-g.ensures,
       c.difference-f.ensures,

@@ -13,10 +13,20 @@ abbrev unlocated : CheckedExtensions → List Extension
 unlocated j = extensions_in j.extensions
 
 pub returns-clause-found : goal.returns-clause-found
-returns-clause-found c = is_found explicit_extensions-format (now c.args.element) c.judge_explicit.result unlocated c.args.element.octets (say-explicit (λ j. j.extensions) (now c.args.element) c.judge_explicit.result c.judge_explicit.ensures.placed)
+returns-clause-found c =
+    is_found explicit_extensions-format (now c.args.element) c.judge_explicit.result unlocated
+    c.args.element.octets
+    (say-explicit (λ j. j.extensions) (now c.args.element) c.judge_explicit.result
+    c.judge_explicit.ensures.placed)
 
 pub returns-clause-only : goal.returns-clause-only
-returns-clause-only c = is_read explicit_extensions-format (now c.args.element) c.judge_explicit.result unlocated (say-explicit (λ j. j.extensions) (now c.args.element) c.judge_explicit.result c.judge_explicit.ensures.placed)
+returns-clause-only c =
+    is_read explicit_extensions-format (now c.args.element) c.judge_explicit.result unlocated
+    (say-explicit (λ j. j.extensions) (now c.args.element) c.judge_explicit.result
+    c.judge_explicit.ensures.placed)
 
 pub returns-clause-fault : goal.returns-clause-fault
-returns-clause-fault c = is_fault explicit_extensions-format (now c.args.element) c.judge_explicit.result unlocated (say-explicit (λ j. j.extensions) (now c.args.element) c.judge_explicit.result c.judge_explicit.ensures.placed)
+returns-clause-fault c =
+    is_fault explicit_extensions-format (now c.args.element) c.judge_explicit.result unlocated
+    (say-explicit (λ j. j.extensions) (now c.args.element) c.judge_explicit.result
+    c.judge_explicit.ensures.placed)

@@ -6,7 +6,9 @@ use Rattle.ts_ext.specs.ExtensionView.{extensions_in}
 use Rattle.ts_ext.proofs.extensions.Extensions.read.Goals as goal
 
 pub returns-clause-found : goal.returns-clause-found
-returns-clause-found c = is_found extensions-format (now c.args.element) c.read_extensions.result extensions_in c.args.element.octets (say (now c.args.element) c.read_extensions.result c.read_extensions.ensures)
+returns-clause-found c = is_found extensions-format (now c.args.element) c.read_extensions.result
+    extensions_in c.args.element.octets
+    (say (now c.args.element) c.read_extensions.result c.read_extensions.ensures)
 
 pub returns-clause-only : goal.returns-clause-only
 returns-clause-only c = is_read extensions-format (now c.args.element) c.read_extensions.result extensions_in (say (now c.args.element) c.read_extensions.result c.read_extensions.ensures)

@@ -1,6 +1,6 @@
 -- The first record, or why there is none.
 use Rattle.std.proofs.Common.{◌∙◌, sym, arith}
-use Rattle.ts_guard.specs.Parts.{IsWhole}
+use Rattle.ts_guard.specs.inside.Parts.{IsWhole}
 use Rattle.ts_guard.proofs.Fronts.{bad_tag, false_true, first_record, head_fault}
 use Rattle.ts_guard.proofs.opener.Opener.first.Goals as goal
 

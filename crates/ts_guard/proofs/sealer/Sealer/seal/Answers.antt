@@ -1,11 +1,11 @@
 -- The record was written behind the others.
 use Rattle.std.proofs.Common.{◌∙◌, ◌++◌, ℕ, List, ap, refl, arith}
 use Rattle.std.proofs.lemmas.Grind.{common_steps}
-use Rattle.ts_guard.specs.Sealed.{record_of, sealed}
+use Rattle.ts_guard.specs.Sealed.{record_of, sealed_record}
 use Rattle.ts_guard.proofs.sealer.Sealer.seal.Goals as goal
 
 pub returns : goal.returns
-unfolding sealed
+unfolding sealed_record
 returns c = record {
   seals = λ key context for. record {
     below = omega arith;

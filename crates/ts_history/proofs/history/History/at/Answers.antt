@@ -3,8 +3,8 @@ use Rattle.std.specs.Prelude.{IfOk}
 use Rattle.std.proofs.lemmas.List.{take-map}
 use Rattle.ts_store.specs.Store.{store_after}
 use Rattle.ts_history.specs.Contents.{Contents, no_contents, contents_of}
-use Rattle.ts_history.specs.History.{replayed}
-use Rattle.ts_history.specs.Taken.{command_in}
+use Rattle.ts_history.specs.inside.History.{replay}
+use Rattle.ts_history.specs.inside.Taken.{command_in}
 use Rattle.ts_history.specs.declared.taken.TakenCommand.{TakenCommand}
 use Rattle.ts_history.proofs.Replays.{commands_count}
 use Rattle.ts_history.proofs.history.History.at.Goals as goal
@@ -16,5 +16,5 @@ returns c =
     let low = ap length c.self.view_is in
     let past = c.self.invariant.past c.args.k (omega (arith, few, low, c.requires)) in
     let same = sym (take-map (λ (t : TakenCommand). command_in t.kept) c.args.k ts) ∙ ap (take c.args.k) c.self.view_is in
-    let whole = ap (λ l. replayed no_contents (take c.args.k l)) c.deref.ensures.value ∙ past ∙ ap (λ l. contents_of (store_after l).tables) same in
+    let whole = ap (λ l. replay no_contents (take c.args.k l)) c.deref.ensures.value ∙ past ∙ ap (λ l. contents_of (store_after l).tables) same in
     subst (λ (x : Contents). IfOk c.replay.result (λ snapshot. snapshot ≡ x)) whole c.replay.ensures

@@ -1,9 +1,9 @@
 use Rattle.std.proofs.Common.{◌≡◌, ◌∙◌, ◌+◌, ◌++◌, ◌∷◌, [], ap, sym, subst, length, arith, Ok}
 use Rattle.ts_store.specs.Tables.{Tables, change}
 use Rattle.ts_history.specs.Contents.{contents_of}
-use Rattle.ts_history.specs.History.{IsHistory}
+use Rattle.ts_history.specs.inside.History.{IsHistory}
 use Rattle.ts_history.specs.Outcome.{outcome_after}
-use Rattle.ts_history.specs.Taken.{changed}
+use Rattle.ts_history.specs.inside.Taken.{apply_change}
 use Rattle.ts_history.proofs.Replays.{came_to, commands_count, goes_on}
 use Rattle.ts_history.proofs.history.History.push.Goals as goal
 
@@ -15,14 +15,19 @@ invariant_of-self-2 c =
     let low = ap length c.self.view_is in
     let items = c.in-Ok.ensures.items ∙ (λ i. c.in_ok-reserve.ensures.items i ++ record { kept = one.kept; change = c.change_made-change.ensures i } ∷ []) in
     let makes = λ (new : Tables) (e : change c.args.command.now c.self.inside.store.tables ≡ Ok new).
-    ap (λ t. changed one.change one.kept (contents_of t)) (sym c.tables.ensures) ∙ c.in_ok-kept.ensures.done new (ap (change c.args.command.now) c.tables.ensures ∙ e) in
+    ap (λ t. apply_change one.change one.kept (contents_of t)) (sym c.tables.ensures) ∙ c.in_ok-kept.ensures.done new (ap (change c.args.command.now) c.tables.ensures ∙ e) in
     subst (λ l. IsHistory l c.apply.new.self) (sym items)
-    (goes_on ts c.self.inside.store c.apply.new.self one.kept one.change c.args.command.now (c.taken-position.result + 1) c.in_ok-outcome.outcome c.self.invariant (omega (arith, few, low, c.requires)) c.in_ok-kept.ensures.same
+    (goes_on ts c.self.inside.store c.apply.new.self one.kept one.change c.args.command.now
+    (c.taken-position.result + 1) c.in_ok-outcome.outcome c.self.invariant
+    (omega (arith, few, low, c.requires)) c.in_ok-kept.ensures.same
     (omega (arith, c.taken-position.ensures)) makes c.in_ok-outcome.ensures.done)
 
 pub returns-clause-outcome : goal.returns-clause-outcome
 returns-clause-outcome c =
     let ts = c.self.inside.taken.items in
     let few = commands_count ts in
-    came_to c.self.inside.store c.apply.new.self _ c.args.command.now (c.taken-position.result + 1) c.in_ok-outcome.outcome c.self.invariant.now (omega (arith, few, c.taken-position.ensures, c.self.invariant.counted)) c.in_ok-outcome.ensures.done
+    came_to c.self.inside.store c.apply.new.self _ c.args.command.now (c.taken-position.result + 1)
+    c.in_ok-outcome.outcome c.self.invariant.now
+    (omega (arith, few, c.taken-position.ensures, c.self.invariant.counted))
+    c.in_ok-outcome.ensures.done
     ∙ ap (λ l. outcome_after l c.args.command.now) c.self.view_is

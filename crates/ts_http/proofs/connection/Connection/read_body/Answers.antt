@@ -6,5 +6,13 @@ use Rattle.ts_http.proofs.connection.Connection.read_body.Goals as goal
 pub returns-in-Came-clause-read : goal.returns-in-Came-clause-read
 returns-in-Came-clause-read c =
     on_ok_weaker c.take_piece.result
-    (λ takes. inl (c.deref.result.now, c.look_for_body.new.server, c.in-Came.count, search rules, record (c.args.self.now) { server = c.look_for_body.new.server; input = c.skip.new.self }, record { server_is = refl; input_is = c.skip.ensures; out_is = refl }, takes))
+    (λ takes. inl (
+      c.deref.result.now,
+      c.look_for_body.new.server,
+      c.in-Came.count,
+      search rules,
+      record (c.args.self.now) { server = c.look_for_body.new.server; input = c.skip.new.self },
+      record { server_is = refl; input_is = c.skip.ensures; out_is = refl },
+      takes,
+    ))
     c.take_piece.ensures.read

@@ -6,5 +6,13 @@ use Rattle.ts_http.proofs.connection.Connection.read_head.Goals as goal
 pub returns-in-Came-clause-read : goal.returns-in-Came-clause-read
 returns-in-Came-clause-read c =
     on_ok_weaker c.take_head.result
-    (λ begins. inl (c.in-Came.request, c.look_for_head.new.server, c.in-Came.count, search rules, record (c.args.self.now) { server = c.look_for_head.new.server; input = c.skip.new.self }, record { server_is = refl; input_is = c.skip.ensures; out_is = refl }, begins))
+    (λ begins. inl (
+      c.in-Came.request,
+      c.look_for_head.new.server,
+      c.in-Came.count,
+      search rules,
+      record (c.args.self.now) { server = c.look_for_head.new.server; input = c.skip.new.self },
+      record { server_is = refl; input_is = c.skip.ensures; out_is = refl },
+      begins,
+    ))
     c.take_head.ensures.read

@@ -20,6 +20,8 @@ returns-clause-holds g c = λ bodies copied body fits are holds.
       right = holds.right;
       live = holds.live;
       is_live = holds.is_live;
-      journal = journal_next (header_of j) holds.live bodies body j.end (length c.args.octets.now) c.args.octets.now (state j.current) (state c.extend.new.disk) holds.journal fits are refl c.in_ok-extend.ensures.durable c.in_ok-extend.ensures.opened;
+      journal = journal_next (header_of j) holds.live bodies body j.end (length c.args.octets.now)
+          c.args.octets.now (state j.current) (state c.extend.new.disk) holds.journal fits are refl
+          c.in_ok-extend.ensures.durable c.in_ok-extend.ensures.opened;
       spare = holds.spare;
     }

@@ -28,7 +28,9 @@ returns-clause-holds g c = λ bodies copied body fits are holds.
     let state = g.D.Disk.state in
     let h = header_of j in
     let k = subst (λ st. IsSpare st h copied j.copy_end (state j.spare)) c.requires.stage holds.spare in
-    let after = journal_next (next h) 0 copied body j.copy_end (length c.args.octets.now) c.args.octets.now (state j.spare) (state c.extend.new.disk) k.0 fits are refl c.in_ok-extend.ensures.durable c.in_ok-extend.ensures.opened in
+    let after = journal_next (next h) 0 copied body j.copy_end (length c.args.octets.now)
+    c.args.octets.now (state j.spare) (state c.extend.new.disk) k.0 fits are refl
+    c.in_ok-extend.ensures.durable c.in_ok-extend.ensures.opened in
     record {
       right = holds.right;
       live = holds.live;

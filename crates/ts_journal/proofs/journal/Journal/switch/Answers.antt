@@ -15,7 +15,9 @@ pub returns-clause-moments : goal.returns-clause-moments
 returns-clause-moments g c = λ bodies copied holds.
     let j = c.args.self.now in
     let state = g.D.Disk.state in
-    switched_moves state g.D.Disk.lawful j c.put.new.disk c.swap.new.x c.swap.new.y bodies copied c.swap.ensures.x_after c.swap.ensures.y_after (ready state bodies copied j holds c.requires.stage) c.put.ensures.moments
+    switched_moves state g.D.Disk.lawful j c.put.new.disk c.swap.new.x c.swap.new.y bodies copied
+    c.swap.ensures.x_after c.swap.ensures.y_after
+    (ready state bodies copied j holds c.requires.stage) c.put.ensures.moments
 
 pub returns-clause-holds : goal.returns-clause-holds
 returns-clause-holds g c = λ bodies copied holds.

@@ -1,7 +1,7 @@
 -- The scanner at the start owes of all what the scanner now owes of what follows the octets that it took.
 use Rattle.std.proofs.Common.{◌+◌, ◌≤◌, ◌++◌, List, ℕ, drop, Option}
 use Rattle.ts_script.specs.declared.script.WrongLine.{WrongLine}
-use Rattle.ts_lab.specs.Scanner.{Owes}
+use Rattle.ts_lab.specs.inside.Scanner.{Owes}
 use Rattle.ts_lab.proofs.scanner.Scanner.feed.Given as goal
 
 abbrev pub invariant-loop-octet : goal.invariant-loop-octet

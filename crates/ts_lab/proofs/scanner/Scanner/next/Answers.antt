@@ -2,7 +2,7 @@
 use Rattle.std.proofs.Common.{ℕ, ◌+◌, refl, ap, subst, Result}
 use Rattle.ts_lab.specs.declared.scanner.Scanner.{Scanner}
 use Rattle.ts_lab.specs.declared.scanner.Stop.{Stop}
-use Rattle.ts_lab.specs.Scanner.{Finishes}
+use Rattle.ts_lab.specs.inside.Scanner.{Finishes}
 use Rattle.ts_lab.proofs.Reading.{scans_said, scans_refused}
 use Rattle.ts_lab.proofs.scanner.Scanner.next.Goals as goal
 

@@ -8,4 +8,6 @@ use Rattle.ts_links.proofs.connections.Connections.take.Goals as goal
 pub returns-clause-gives : goal.returns-clause-gives
 returns-clause-gives g c =
     let was : slice_get c.args.self.now.links.items c.args.slot ≡ Some c.index_mut-link.result.now = grind (arith, common_steps, slice_get_read) in
-    gives_of g.S.Service.turn c.args.self.now.links.items c.args.slot c.args.now c.index_mut-link.result.now c.take.new.self c.args.service.now c.take.new.service c.take.result was c.take.ensures.gives
+    gives_of g.S.Service.turn c.args.self.now.links.items c.args.slot c.args.now
+    c.index_mut-link.result.now c.take.new.self c.args.service.now c.take.new.service c.take.result
+    was c.take.ensures.gives

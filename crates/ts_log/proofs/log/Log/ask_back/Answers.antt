@@ -12,7 +12,11 @@ returns-then-count g c =
     let a = c.args.self.now in
     let n = c.args.count in
     let before = length (prefix (learned_of a)) in
-    let none : (n ≤ before) ⊎ (1000000 ≤ n) = elim c.then-count.branch [ then-count-via-then-count w ↦ inl (omega (arith, c.count.ensures.count)) | then-count-via-else-count+then-count-ge-LAST_POSITION w ↦ inr (omega arith) ] in
+    let none : (n ≤ before) ⊎ (1000000 ≤ n) =
+    elim c.then-count.branch [
+      | then-count-via-then-count w ↦ inl (omega (arith, c.count.ensures.count))
+      | then-count-via-else-count+then-count-ge-LAST_POSITION w ↦ inr (omega arith)
+    ] in
     c.new-messages.ensures.items ∙ sym (asks_none (config_of a) before n c.args.from none)
 
 pub returns : goal.returns
@@ -20,4 +24,7 @@ returns g c =
     let a = c.args.self.now in
     let n = c.args.count in
     let before = length (prefix (learned_of a)) in
-    c.in_ok-push.ensures.items ∙ ap (λ ms. ms ++ send a.me c.args.from (Ask (n + 1)) ∷ []) c.new-messages.ensures.items ∙ sym (asks_one (config_of a) before n c.args.from (omega (arith, c.count.ensures.count)) (omega arith))
+    c.in_ok-push.ensures.items
+    ∙ ap (λ ms. ms ++ send a.me c.args.from (Ask (n + 1)) ∷ []) c.new-messages.ensures.items
+    ∙ sym (asks_one (config_of a) before n c.args.from (omega (arith, c.count.ensures.count))
+    (omega arith))

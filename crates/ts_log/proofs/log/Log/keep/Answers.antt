@@ -1,5 +1,5 @@
 use Rattle.std.proofs.Common.{◌≡◌, ◌∙◌, ◌++◌, false, Some, is_some, ap, sym, subst}
-use Rattle.ts_synod.specs.Lists.{put}
+use Rattle.ts_synod.specs.Lists.{update_at}
 use Rattle.ts_synod.specs.Force.{log_of}
 use Rattle.ts_log.specs.Steps.{IsChangeOf, received_after}
 use Rattle.ts_log.proofs.Facts.{log_learns}
@@ -17,4 +17,4 @@ returns-clause-state g c = λ facts h.
     let p = c.in-Learn.position in
     let is = subst (λ change. IsChangeOf a change c.args.step.facts.items) c.in-Learn.is c.requires in
     let new : is_some (log_of facts p) ≡ false = subst (λ (f : _). is_some (f p) ≡ false) h is.1 in
-    c.put-in-Learn.ensures ∙ ap (λ f. put f p (Some c.in-Learn.command)) h ∙ log_learns facts p c.in-Learn.command new ∙ ap (λ more. log_of (facts ++ more)) (sym is.0)
+    c.put-in-Learn.ensures ∙ ap (λ f. update_at f p (Some c.in-Learn.command)) h ∙ log_learns facts p c.in-Learn.command new ∙ ap (λ more. log_of (facts ++ more)) (sym is.0)

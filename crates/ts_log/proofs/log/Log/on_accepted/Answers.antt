@@ -8,7 +8,9 @@ pub returns-clause-step : goal.returns-clause-step
 returns-clause-step g c =
     let a = c.args.self.now in
     let new : is_some (learned_of a c.args.position) ≡ false = cc in
-    subst (Makes c.reserve.new.self c.in_ok-step.step) (counts a c.reserve.new.self c.args.from c.args.position c.args.ballot c.args.command.now c.in_ok-reserve.ensures.same new) c.in_ok-step.ensures.step
+    subst (Makes c.reserve.new.self c.in_ok-step.step)
+    (counts a c.reserve.new.self c.args.from c.args.position c.args.ballot c.args.command.now
+    c.in_ok-reserve.ensures.same new) c.in_ok-step.ensures.step
 
 pub count_vote-requires-clause-new : goal.count_vote-requires-clause-new
 count_vote-requires-clause-new g c =

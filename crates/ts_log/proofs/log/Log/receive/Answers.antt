@@ -1,5 +1,5 @@
 use Rattle.std.proofs.Common.{◌∙◌, Some, ap, refl, sym, rules}
-use Rattle.ts_synod.specs.Lists.{put}
+use Rattle.ts_synod.specs.Lists.{update_at}
 use Rattle.ts_log.specs.Log.{received_of}
 use Rattle.ts_log.proofs.Places.{put_own}
 use Rattle.ts_log.proofs.Votes.{IsBelow, with_new, with_old}
@@ -15,7 +15,11 @@ returns-then-ballot-vote-clause-step g c =
       facts = made.facts;
       messages = made.messages ∙ c.new.ensures.items;
       learned = made.learned;
-      received = made.received ∙ sym (ap (put votes p) (with_old (votes p) c.args.from c.in-Some.vote.now (record { ballot = c.args.ballot; command = c.args.command.now }) (sym c.in-Some.ensures) c.if-ballot-vote.true) ∙ put_own votes p);
+      received = made.received
+          ∙ sym (ap (update_at votes p)
+          (with_old (votes p) c.args.from c.in-Some.vote.now
+          (record { ballot = c.args.ballot; command = c.args.command.now }) (sym c.in-Some.ensures)
+          c.if-ballot-vote.true) ∙ put_own votes p);
     }
 
 pub returns-clause-step : goal.returns-clause-step
@@ -29,5 +33,9 @@ returns-clause-step g c =
       facts = c.new-2.ensures.items;
       messages = c.new-3.ensures.items;
       learned = refl;
-      received = ap (λ d. put votes p (put (votes p) from (Some (record { ballot = b; command = d })))) c.in_ok-try_copy.ensures.copy ∙ sym (ap (put votes p) (with_new (votes p) from (record { ballot = b; command = c.args.command.now }) low));
+      received = ap (λ d. update_at votes p
+          (update_at (votes p) from (Some (record { ballot = b; command = d }))))
+          c.in_ok-try_copy.ensures.copy
+          ∙ sym (ap (update_at votes p)
+          (with_new (votes p) from (record { ballot = b; command = c.args.command.now }) low));
     }

@@ -4,4 +4,6 @@ use Rattle.ts_memo.proofs.Questions.{right}
 use Rattle.ts_memo.proofs.memo.Memo.good.Goals as goal
 
 pub keep-requires : goal.keep-requires
-keep-requires c = right c.in-Some.octets.items c.good-good.result c.args.algorithm.now (key_of c.args.key.now) c.args.signed.now.octets.now c.args.signature.now (c.in-Some.ensures.fits refl) c.in-Some.ensures.octets c.good-good.ensures
+keep-requires c = right c.in-Some.octets.items c.good-good.result c.args.algorithm.now
+    (key_of c.args.key.now) c.args.signed.now.octets.now c.args.signature.now
+    (c.in-Some.ensures.fits refl) c.in-Some.ensures.octets c.good-good.ensures

@@ -11,10 +11,16 @@ returns-then-ne c = by-kind (attr_of c.args.self) (attr_of c.args.other) c.cmp-k
 pub returns-then-ne-2 : goal.returns-then-ne-2
 returns-then-ne-2 c =
     by-tag (attr_of c.args.self) (attr_of c.args.other) c.cmp-kinds.result c.cmp-tags.result c.cmp-kinds.ensures c.if-ne.ensures
-    (c.cmp-tags.ensures ∙ (ap (λ (t : ℕ). nat_cmp t c.canonical_tag-2.result) c.canonical_tag.ensures ∙ ap (λ (t : ℕ). nat_cmp (canon_attr (attr_of c.args.self)).tag t) c.canonical_tag-2.ensures)) c.if-ne-2.ensures
+    (c.cmp-tags.ensures ∙ (ap (λ (t : ℕ). nat_cmp t c.canonical_tag-2.result)
+    c.canonical_tag.ensures
+    ∙ ap (λ (t : ℕ). nat_cmp (canon_attr (attr_of c.args.self)).tag t)
+    c.canonical_tag-2.ensures)) c.if-ne-2.ensures
 
 pub returns : goal.returns
 returns c =
     c.compare_values.ensures
     ∙ by-value (attr_of c.args.self) (attr_of c.args.other) c.cmp-kinds.result c.cmp-tags.result c.cmp-kinds.ensures c.if-ne.ensures
-    (c.cmp-tags.ensures ∙ (ap (λ (t : ℕ). nat_cmp t c.canonical_tag-2.result) c.canonical_tag.ensures ∙ ap (λ (t : ℕ). nat_cmp (canon_attr (attr_of c.args.self)).tag t) c.canonical_tag-2.ensures)) c.if-ne-2.ensures
+    (c.cmp-tags.ensures ∙ (ap (λ (t : ℕ). nat_cmp t c.canonical_tag-2.result)
+    c.canonical_tag.ensures
+    ∙ ap (λ (t : ℕ). nat_cmp (canon_attr (attr_of c.args.self)).tag t)
+    c.canonical_tag-2.ensures)) c.if-ne-2.ensures

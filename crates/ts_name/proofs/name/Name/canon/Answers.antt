@@ -19,7 +19,10 @@ loop-rdn-preserved c =
       tt,
       i.2 ++ x ∷ [],
       goes (rdns_in c.args.self) i.2 c.next.new.self x all,
-      c.in_ok-push.ensures.ok ∙ (ap (λ (r : List CanonAttr). CanonView.rdns_in c.loop-rdn.canon ++ r ∷ []) c.in_ok-rdn.ensures ∙ (ap (λ (xs : List (List CanonAttr)). xs ++ canon_rdn x ∷ []) i.4 ∙ sym (name-more i.2 x))),
+      c.in_ok-push.ensures.ok
+          ∙ (ap (λ (r : List CanonAttr). CanonView.rdns_in c.loop-rdn.canon ++ r ∷ [])
+          c.in_ok-rdn.ensures ∙ (ap (λ (xs : List (List CanonAttr)). xs ++ canon_rdn x ∷ []) i.4
+          ∙ sym (name-more i.2 x))),
     )
 
 pub returns : goal.returns

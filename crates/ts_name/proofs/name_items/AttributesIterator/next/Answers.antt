@@ -37,5 +37,7 @@ pub returns-clause-goes : goal.returns-clause-goes
 returns-clause-goes c =
     let f = first c in
     let x = read c in
-    let shorter : length (attributes_from c.element.new.self) < length c.args.self.now = subst (λ (xs : List Attr). length (attributes_from c.element.new.self) < length xs) (sym f.whole ∙ c.self.view_is) (omega arith) in
+    let shorter : length (attributes_from c.element.new.self) < length c.args.self.now =
+    subst (λ (xs : List Attr). length (attributes_from c.element.new.self) < length xs)
+    (sym f.whole ∙ c.self.view_is) (omega arith) in
     rw (c.ok.ensures.value, x.1) (record { on = λ _. (tt, tt, shorter); keeps = tt; rests = λ _. tt })

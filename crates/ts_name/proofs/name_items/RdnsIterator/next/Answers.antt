@@ -33,5 +33,7 @@ returns-clause-steps c =
 
 pub returns-clause-goes : goal.returns-clause-goes
 returns-clause-goes c =
-    let shorter : length (rdns_from c.element.new.self) < length c.args.self.now = subst (λ (xs : List (List Attr)). length (rdns_from c.element.new.self) < length xs) (sym (returns-clause-steps c)) (omega arith) in
+    let shorter : length (rdns_from c.element.new.self) < length c.args.self.now =
+    subst (λ (xs : List (List Attr)). length (rdns_from c.element.new.self) < length xs)
+    (sym (returns-clause-steps c)) (omega arith) in
     record { on = λ _. (tt, tt, shorter); keeps = tt; rests = λ _. tt }

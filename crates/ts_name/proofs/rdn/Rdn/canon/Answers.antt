@@ -23,7 +23,11 @@ loop-attribute-preserved c =
       tt,
       i.2 ++ x ∷ [],
       goes (attributes_in c.args.self) i.2 c.next.new.self x all,
-      ap (map attr_in) c.in_ok-push.ensures.items ∙ (pushed attr_in c.loop-attribute.attributes.items c.in_ok-canon.canon ∙ (ap (λ (xs : List CanonAttr). xs ++ attr_in c.in_ok-canon.canon ∷ []) i.4 ∙ (ap (λ (z : CanonAttr). map canon_attr i.2 ++ z ∷ []) c.in_ok-canon.ensures ∙ sym (pushed canon_attr i.2 x)))),
+      ap (map attr_in) c.in_ok-push.ensures.items
+          ∙ (pushed attr_in c.loop-attribute.attributes.items c.in_ok-canon.canon
+          ∙ (ap (λ (xs : List CanonAttr). xs ++ attr_in c.in_ok-canon.canon ∷ []) i.4
+          ∙ (ap (λ (z : CanonAttr). map canon_attr i.2 ++ z ∷ []) c.in_ok-canon.ensures
+          ∙ sym (pushed canon_attr i.2 x)))),
     )
 
 pub returns : goal.returns

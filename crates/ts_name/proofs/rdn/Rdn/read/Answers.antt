@@ -14,7 +14,10 @@ returns-clause-found c =
     IfOk-answers attributes_in c.read_rdn.result _ (λ attributes. IsRdnContent e.content attributes) c.read_rdn.ensures (λ attributes read. rdn-codec.found e attributes c.args.element.octets read)
 
 pub returns-clause-only : goal.returns-clause-only
-returns-clause-only c = λ attributes is. IsOkAnd-answers attributes_in c.read_rdn.result _ attributes (λ xs. xs ≡ attributes) c.read_rdn.ensures (rdn-codec.again (now c.args.element) attributes is.1 is.0) refl
+returns-clause-only c =
+    λ attributes is. IsOkAnd-answers attributes_in c.read_rdn.result _ attributes
+    (λ xs. xs ≡ attributes) c.read_rdn.ensures
+    (rdn-codec.again (now c.args.element) attributes is.1 is.0) refl
 
 pub returns-clause-fault : goal.returns-clause-fault
 returns-clause-fault c = about-judged attributes_in c.read_rdn.result _ _ (λ attributes. Unit {0}) c.read_rdn.ensures (rdn-judged (now c.args.element))

@@ -28,13 +28,18 @@ returns-then-are_none-clause-moments g c =
 
 pub returns-then-are_none-clause-sound : goal.returns-then-are_none-clause-sound
 returns-then-are_none-clause-sound g c = λ up.
-    staged_whole g.D.Disk.state g.C.Codec.octets g.M.Machine.commands c.args.self.now c.args.staged.facts.items (sym c.deref.ensures.value ∙ c.are_none.ensures.none c.if-are_none.true) c.requires.staged
+    staged_whole g.D.Disk.state g.C.Codec.octets g.M.Machine.commands c.args.self.now
+    c.args.staged.facts.items
+    (sym c.deref.ensures.value ∙ c.are_none.ensures.none c.if-are_none.true) c.requires.staged
 
 pub returns-in-Ok-clause-moments : goal.returns-in-Ok-clause-moments
 returns-in-Ok-clause-moments g c = λ ca cb a b.
     let kept = c.args.self.now.kept in
     let more = c.args.staged.facts.items in
-    subst (λ m. ToEither g.C.Codec.octets m kept.facts more ca cb) c.requires.staged.whose (to_either g.C.Codec.octets (member kept) kept.swapped kept.facts more ca cb (subst (λ fs. ToBeforeOrAfter g.C.Codec.octets (member kept) kept.swapped kept.facts fs ca cb) c.deref-2.ensures.value (c.append.ensures.moments c.requires.whole ca cb a b)))
+    subst (λ m. ToEither g.C.Codec.octets m kept.facts more ca cb) c.requires.staged.whose
+    (to_either g.C.Codec.octets (member kept) kept.swapped kept.facts more ca cb
+    (subst (λ fs. ToBeforeOrAfter g.C.Codec.octets (member kept) kept.swapped kept.facts fs ca cb)
+    c.deref-2.ensures.value (c.append.ensures.moments c.requires.whole ca cb a b)))
 
 pub returns-in-Ok-clause-sound : goal.returns-in-Ok-clause-sound
 returns-in-Ok-clause-sound g c = λ up.
@@ -58,7 +63,11 @@ returns-clause-moments g c =
     let more = c.args.staged.facts.items in
     let state = g.D.Disk.state in
     subst (λ k. EveryPair (ToEither g.C.Codec.octets (owner old) kept.facts more) (state kept.a) (state kept.b) (state k.a) (state k.b)) (sym (ap (λ n. n.kept) c.stop.ensures.same))
-    (λ ca cb a b. subst (λ m. ToEither g.C.Codec.octets m kept.facts more ca cb) c.requires.staged.whose (to_either g.C.Codec.octets (member kept) kept.swapped kept.facts more ca cb (subst (λ fs. ToBeforeOrAfter g.C.Codec.octets (member kept) kept.swapped kept.facts fs ca cb) c.deref-2.ensures.value (c.append.ensures.moments c.requires.whole ca cb a b))))
+    (λ ca cb a b. subst (λ m. ToEither g.C.Codec.octets m kept.facts more ca cb)
+    c.requires.staged.whose
+    (to_either g.C.Codec.octets (member kept) kept.swapped kept.facts more ca cb
+    (subst (λ fs. ToBeforeOrAfter g.C.Codec.octets (member kept) kept.swapped kept.facts fs ca cb)
+    c.deref-2.ensures.value (c.append.ensures.moments c.requires.whole ca cb a b))))
 
 pub returns-clause-sound : goal.returns-clause-sound
 returns-clause-sound g c = λ up.

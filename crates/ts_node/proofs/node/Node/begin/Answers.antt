@@ -2,7 +2,8 @@
 use Rattle.std.proofs.Common.{◌∙◌, ◌≤◌, ◌++◌, ◌+◌, length, ap, refl, sym, subst, arith}
 use Rattle.ts_record.specs.Facts.{AllFit, encodings}
 use Rattle.ts_node.specs.Machine.{store_of}
-use Rattle.ts_node.specs.Roles.{facts_in, volatile_after, volatile_of}
+use Rattle.ts_node.specs.Roles.{volatile_of}
+use Rattle.ts_node.specs.inside.Roles.{facts_in, volatile_after}
 use Rattle.ts_node.specs.Staged.{IsStaged}
 use Rattle.ts_node.proofs.Breaks.{ok_after}
 use Rattle.ts_node.proofs.Coming.{begun, one_step, stages_from}
@@ -31,7 +32,9 @@ returns-in-Err-clause-staged g c = λ up.
 pub take_rest-requires-clause-staged : goal.take_rest-requires-clause-staged
 take_rest-requires-clause-staged g c =
     let more = facts_in c.args.plan.change in
-    staged_more g.D.Disk.state g.C.Codec.octets g.M.Machine.commands c.args.self.now c.args.staged.now.facts.items more c.advance.new.self c.requires.staged c.advance.ensures.config c.in-Ok.ensures.stand c.advance.new.turn.facts.items
+    staged_more g.D.Disk.state g.C.Codec.octets g.M.Machine.commands c.args.self.now
+    c.args.staged.now.facts.items more c.advance.new.self c.requires.staged c.advance.ensures.config
+    c.in-Ok.ensures.stand c.advance.new.turn.facts.items
     (c.in-Ok.ensures.facts ∙ ap (λ fs. fs ++ more) c.behind-turn.ensures.facts)
 
 pub take_rest-requires-clause-held : goal.take_rest-requires-clause-held
@@ -64,8 +67,17 @@ returns-in-Ok-clause-begun g c =
       made = rest.made;
       more = rest.more;
       then' = rest.then';
-      so = λ fs sent event stand makes. rest.so _ fs _ sent event (begun store fs sent event old.roles roles plan c.advance.new.turn stand makes c.in-Ok.ensures.stand c.in-Ok.ensures.volatile c.advance.ensures.config facts messages looked);
-      comes = stages_from c.args.reply rest.looked rest.made rest.more rest.then' c.args.staged.now.facts.items c.take_rest.new.staged.facts.items old c.take_rest.new.self roles old.machine c.advance.ensures.config c.take_rest.result rest.only rest.comes;
+      so = λ fs sent event stand makes. rest.so _ fs _ sent event
+          (begun store fs sent event old.roles roles plan c.advance.new.turn stand makes
+          c.in-Ok.ensures.stand c.in-Ok.ensures.volatile c.advance.ensures.config facts messages
+          looked);
+      comes = stages_from c.args.reply rest.looked rest.made rest.more rest.then'
+          c.args.staged.now.facts.items c.take_rest.new.staged.facts.items old c.take_rest.new.self
+          roles old.machine c.advance.ensures.config c.take_rest.result rest.only rest.comes;
       few = rest.few;
-      ends = ok_after c.take_rest.result (λ h fs sent event stand makes. h _ fs _ sent event (begun store fs sent event old.roles roles plan c.advance.new.turn stand makes c.in-Ok.ensures.stand c.in-Ok.ensures.volatile c.advance.ensures.config facts messages looked)) rest.ends;
+      ends = ok_after c.take_rest.result
+          (λ h fs sent event stand makes. h _ fs _ sent event
+          (begun store fs sent event old.roles roles plan c.advance.new.turn stand makes
+          c.in-Ok.ensures.stand c.in-Ok.ensures.volatile c.advance.ensures.config facts messages
+          looked)) rest.ends;
     }

@@ -4,7 +4,8 @@ use Rattle.ts_record.specs.Record.{ToBeforeOrAfter}
 use Rattle.ts_node.specs.Growing.{IsPart}
 use Rattle.ts_record.specs.Kept.{member}
 use Rattle.ts_node.specs.Node.{IsWhole, ToEither, fault_as, member_as}
-use Rattle.ts_node.specs.Roles.{StandFor, facts_in}
+use Rattle.ts_node.specs.Roles.{StandFor}
+use Rattle.ts_node.specs.inside.Roles.{facts_in}
 use Rattle.ts_node.proofs.Breaks.{both_not, first_not}
 use Rattle.ts_node.proofs.Images.{cause, log_extends, part_extends, to_either}
 use Rattle.ts_node.proofs.node.Node.commit.Goals as goal
@@ -14,14 +15,18 @@ returns-in-Ok-clause-moments g c = λ ca cb a b.
     let kept = c.args.self.now.kept in
     let more = facts_in c.args.plan.change in
     let run = subst (λ fs. ToBeforeOrAfter g.C.Codec.octets (member kept) kept.swapped kept.facts fs ca cb) c.facts.ensures (c.append.ensures.moments c.requires.whole ca cb a b) in
-    subst (λ m. ToEither g.C.Codec.octets m kept.facts more ca cb) (c.requires.sound (both_not _ _ c.requires.whole c.requires.still)).whose (to_either g.C.Codec.octets (member kept) kept.swapped kept.facts more ca cb run)
+    subst (λ m. ToEither g.C.Codec.octets m kept.facts more ca cb)
+    (c.requires.sound (both_not _ _ c.requires.whole c.requires.still)).whose
+    (to_either g.C.Codec.octets (member kept) kept.swapped kept.facts more ca cb run)
 
 pub returns-in-Err-clause-moments : goal.returns-in-Err-clause-moments
 returns-in-Err-clause-moments g c = λ ca cb a b.
     let kept = c.args.self.now.kept in
     let more = facts_in c.args.plan.change in
     let run = subst (λ fs. ToBeforeOrAfter g.C.Codec.octets (member kept) kept.swapped kept.facts fs ca cb) c.facts.ensures (c.append.ensures.moments c.requires.whole ca cb a b) in
-    subst (λ m. ToEither g.C.Codec.octets m kept.facts more ca cb) (c.requires.sound (both_not _ _ c.requires.whole c.requires.still)).whose (to_either g.C.Codec.octets (member kept) kept.swapped kept.facts more ca cb run)
+    subst (λ m. ToEither g.C.Codec.octets m kept.facts more ca cb)
+    (c.requires.sound (both_not _ _ c.requires.whole c.requires.still)).whose
+    (to_either g.C.Codec.octets (member kept) kept.swapped kept.facts more ca cb run)
 
 pub returns-in-Ok-clause-sound : goal.returns-in-Ok-clause-sound
 returns-in-Ok-clause-sound g c = λ whole.

@@ -23,10 +23,16 @@ pub returns-in-Ok-clause-moments : goal.returns-in-Ok-clause-moments
 returns-in-Ok-clause-moments g c =
     let old = c.args.self.now in
     let state = g.D.Disk.state in
-    subst (λ m. EveryPair (OpensToForce g.C.Codec.octets m old.kept.facts) (state old.kept.a) (state old.kept.b) (state c.compact.new.self.a) (state c.compact.new.self.b)) (c.requires.sound (both_not _ _ c.requires.whole c.requires.still)).whose (c.compact.ensures.moments c.requires.whole)
+    subst (λ m. EveryPair (OpensToForce g.C.Codec.octets m old.kept.facts) (state old.kept.a)
+    (state old.kept.b) (state c.compact.new.self.a) (state c.compact.new.self.b))
+    (c.requires.sound (both_not _ _ c.requires.whole c.requires.still)).whose
+    (c.compact.ensures.moments c.requires.whole)
 
 pub returns-in-Err-clause-moments : goal.returns-in-Err-clause-moments
 returns-in-Err-clause-moments g c =
     let old = c.args.self.now in
     let state = g.D.Disk.state in
-    subst (λ m. EveryPair (OpensToForce g.C.Codec.octets m old.kept.facts) (state old.kept.a) (state old.kept.b) (state c.compact.new.self.a) (state c.compact.new.self.b)) (c.requires.sound (both_not _ _ c.requires.whole c.requires.still)).whose (c.compact.ensures.moments c.requires.whole)
+    subst (λ m. EveryPair (OpensToForce g.C.Codec.octets m old.kept.facts) (state old.kept.a)
+    (state old.kept.b) (state c.compact.new.self.a) (state c.compact.new.self.b))
+    (c.requires.sound (both_not _ _ c.requires.whole c.requires.still)).whose
+    (c.compact.ensures.moments c.requires.whole)

@@ -1,10 +1,11 @@
 -- A plan without messages to the node itself is kept as in a call of its own.
 use Rattle.std.proofs.Common.{◌≡◌, ◌∙◌, Err, false, inl, ap, refl, sym, subst, arith, ⊎_elim}
-use Rattle.ts_node.specs.declared.input.NodeFault.{NodeFault}
-use Rattle.ts_node.specs.declared.input.NodeFault.TheVariants as faults
+use Rattle.ts_synod.specs.declared.fault.NodeFault.{NodeFault}
+use Rattle.ts_synod.specs.declared.fault.NodeFault.TheVariants as faults
 use Rattle.ts_node.specs.Machine.{store_of}
-use Rattle.ts_node.specs.Roles.{facts_in, volatile_after, volatile_of}
-use Rattle.ts_node.specs.Staged.{Comes}
+use Rattle.ts_node.specs.Roles.{volatile_of}
+use Rattle.ts_node.specs.inside.Roles.{facts_in, volatile_after}
+use Rattle.ts_node.specs.inside.Staged.{Comes}
 use Rattle.ts_node.specs.Turn.{has_own}
 use Rattle.ts_node.proofs.Coming.{one_step}
 use Rattle.ts_node.proofs.node.Node.go_on.Goals as goal
@@ -31,7 +32,10 @@ returns-in-Err-clause-come g c =
     let old = c.args.self.now in
     let plan = c.args.plan in
     let fault = c.in-Err.fault in
-    let comes : NodeFault → Type 0 = λ f. Comes {O = g.row.M-Outcome.Denot} {A = g.row.M-Answer.Denot} g.D.Disk.state old c.args.reply 0 plan.messages.items (facts_in plan.change) (volatile_after old.roles plan.change) (Err f) c.commit.new.self in
+    let comes : NodeFault
+    → Type 0 = λ f. Comes {O = g.row.M-Outcome.Denot} {A = g.row.M-Answer.Denot} g.D.Disk.state
+    old c.args.reply 0 plan.messages.items (facts_in plan.change)
+    (volatile_after old.roles plan.change) (Err f) c.commit.new.self in
     record {
       looked = 0;
       made = plan.messages.items;

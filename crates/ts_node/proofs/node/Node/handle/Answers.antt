@@ -14,8 +14,18 @@ returns-in_default-clause-call g c =
     let whole0 = c.is_broken.ensures.whole c.if-is_broken.false in
     let still = c.is_broken.ensures.still c.if-is_broken.false in
     record {
-      step = λ whole kept sent event force is. subst (λ (s : Step g.row.C.Denot g.row.M-Outcome.Denot g.row.M-Question.Denot (List g.row.C.Denot)). Handles (m.is_answer (m.basis old.machine)) old c.take.result c.take.new.self s) (sym (same_step store (config old) kept (facts old) force (volatile old) sent event)) (c.take.ensures.step sent event is);
-      moments = λ whole kept sent event force is. subst (λ (s : Step g.row.C.Denot g.row.M-Outcome.Denot g.row.M-Question.Denot (List g.row.C.Denot)). Moments g.D.Disk.state g.C.Codec.octets old s.effect.facts c.take.new.self) (sym (same_step store (config old) kept (facts old) force (volatile old) sent event)) (c.take.ensures.moments sent event is);
+      step = λ whole kept sent event force is. subst
+          (λ (s : Step g.row.C.Denot g.row.M-Outcome.Denot g.row.M-Question.Denot
+          (List g.row.C.Denot)). Handles (m.is_answer (m.basis old.machine)) old c.take.result
+          c.take.new.self s) (sym
+          (same_step store (config old) kept (facts old) force (volatile old) sent event))
+          (c.take.ensures.step sent event is);
+      moments = λ whole kept sent event force is. subst
+          (λ (s : Step g.row.C.Denot g.row.M-Outcome.Denot g.row.M-Question.Denot
+          (List g.row.C.Denot)). Moments g.D.Disk.state g.C.Codec.octets old s.effect.facts
+          c.take.new.self) (sym
+          (same_step store (config old) kept (facts old) force (volatile old) sent event))
+          (c.take.ensures.moments sent event is);
       compacts = λ whole is. absurd (c.in_default.not-Compact is);
       exhausted = λ whole is. absurd (c.in_default.not-Compact is);
       same_config = c.take.ensures.config;

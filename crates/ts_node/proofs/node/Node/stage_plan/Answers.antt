@@ -2,7 +2,7 @@
 use Rattle.std.proofs.Common.{◌≤◌, ◌+◌, length, refl, subst, arith}
 use Rattle.ts_record.specs.Facts.{AllFit, encodings}
 use Rattle.ts_node.specs.Machine.{store_of}
-use Rattle.ts_node.specs.Roles.{facts_in, volatile_after}
+use Rattle.ts_node.specs.inside.Roles.{facts_in, volatile_after}
 use Rattle.ts_node.proofs.Coming.{fit_behind, one_step}
 use Rattle.ts_node.proofs.node.Node.stage_plan.Goals as goal
 

@@ -74,4 +74,7 @@ returns-in-Ok-put-clause-staged g c = λ up.
     let w = c.requires.staged in
     let old = c.args.self.now in
     let t = c.take_own.new.turn in
-    staged_on g.D.Disk.state g.C.Codec.octets g.M.Machine.commands old c.args.staged.now.facts.items c.args.turn.facts.items t.facts.items c.take_own.new.self c.take_own.new.machine w c.take_own.ensures.config c.in-Ok.ensures.on c.in-Ok.ensures.part c.put.new.self.facts.items c.in-Ok-put.ensures.facts
+    staged_on g.D.Disk.state g.C.Codec.octets g.M.Machine.commands old c.args.staged.now.facts.items
+    c.args.turn.facts.items t.facts.items c.take_own.new.self c.take_own.new.machine w
+    c.take_own.ensures.config c.in-Ok.ensures.on c.in-Ok.ensures.part c.put.new.self.facts.items
+    c.in-Ok-put.ensures.facts

@@ -11,6 +11,16 @@ returns-clause-reply g c =
     let cs = prefix (learned_of c.args.self.now.log) in
     let k = c.match-k.at in
     let is_answer = m.is_answer (m.basis c.args.machine.now) in
-    let here : IsAt c.args.k (length cs) k = elim c.match-k.branch [ in-Some w ↦ subst (λ o. IsAt o (length cs) k) (sym w.in-Some.is) w.at-is | in-None w ↦ subst (λ o. IsAt o (length cs) k) (sym w.in-None.is) (w.at-is ∙ c.prefix-prefix.ensures) ] in
+    let here : IsAt c.args.k (length cs) k =
+    elim c.match-k.branch [
+      | in-Some w ↦ subst (λ o. IsAt o (length cs) k) (sym w.in-Some.is) w.at-is
+      | in-None w ↦ subst (λ o. IsAt o (length cs) k) (sym w.in-None.is)
+          (w.at-is ∙ c.prefix-prefix.ensures)
+    ] in
     let le : k ≤ length cs = omega (arith, c.prefix-prefix.ensures) in
-    answered g.row.M-Question.Denot m.client_id m.outcome is_answer cs c.args.k k c.args.question.now c.in_ok-answer.answer here le (subst (λ xs. is_answer (take k xs) c.args.question.now c.in_ok-answer.answer) c.in_ok-feed.ensures.whole (subst (λ b. m.is_answer b (take k (m.commands c.feed.new.machine)) c.args.question.now c.in_ok-answer.answer) c.feed.ensures.basis c.in_ok-answer.ensures.answer))
+    answered g.row.M-Question.Denot m.client_id m.outcome is_answer cs c.args.k k
+    c.args.question.now c.in_ok-answer.answer here le
+    (subst (λ xs. is_answer (take k xs) c.args.question.now c.in_ok-answer.answer)
+    c.in_ok-feed.ensures.whole
+    (subst (λ b. m.is_answer b (take k (m.commands c.feed.new.machine)) c.args.question.now
+    c.in_ok-answer.answer) c.feed.ensures.basis c.in_ok-answer.ensures.answer))

@@ -20,6 +20,8 @@ loop-joined-preserved g c =
     let i = c.loop-joined.joined in
     let l : i < length (prefix f) = omega (arith, c.requires.after) in
     elim c.match-command_after.branch [
-      | in-Some+else-has_this_id w ↦ c.loop-joined.invariant ∙ join_miss g.M.Machine.client_id c.args.id.now f i w.in-Some.command.now l (sym w.in-Some.ensures) (sym w.has_this_id.ensures ∙ w.if-has_this_id.false)
+      | in-Some+else-has_this_id w ↦ c.loop-joined.invariant
+          ∙ join_miss g.M.Machine.client_id c.args.id.now f i w.in-Some.command.now l
+          (sym w.in-Some.ensures) (sym w.has_this_id.ensures ∙ w.if-has_this_id.false)
       | in_default w ↦ absurd (prefix_none f i (option_copied c.command_after.result) l c.command_after.ensures (ap option_copied w.in_default.is))
     ]

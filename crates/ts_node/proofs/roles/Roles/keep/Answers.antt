@@ -1,5 +1,6 @@
 use Rattle.std.proofs.Common.{◌∙◌, ◌++◌, append_assoc, ap, sym, subst}
-use Rattle.ts_node.specs.Roles.{IsLatest, StandFor, facts_in}
+use Rattle.ts_node.specs.Roles.{StandFor}
+use Rattle.ts_node.specs.inside.Roles.{IsLatest, facts_in}
 use Rattle.ts_node.proofs.roles.Roles.keep.Goals as goal
 
 pub returns-in-Grow-clause-stand : goal.returns-in-Grow-clause-stand

@@ -22,11 +22,18 @@ returns-then-is_some-clause-next g c =
     let command = c.in-Some.command.now in
     let id = m.client_id command in
     let more = step_extends log c.args.step.now.change c.args.step.now.facts.items c.requires.latest in
-    let same : is_some (settling store (prefix f) id) ≡ is_some c.settled.result = ap (λ cs. is_some (settling store cs id)) (sym c.in_ok-feed.ensures.whole) ∙ ap (λ i. is_some (settling store (m.commands c.feed.new.machine) i)) (sym c.id_of-id.ensures) ∙ ap is_some (sym c.settled.ensures) ∙ some_as c.settled.result in
+    let same : is_some (settling store (prefix f) id) ≡ is_some c.settled.result =
+    ap (λ cs. is_some (settling store cs id)) (sym c.in_ok-feed.ensures.whole)
+    ∙ ap (λ i. is_some (settling store (m.commands c.feed.new.machine) i))
+    (sym c.id_of-id.ensures) ∙ ap is_some (sym c.settled.ensures) ∙ some_as c.settled.result in
     let here : is_some (settling store (prefix after) id) ≡ true =
     elim c.then-is_some.branch [
       | then-is_some-via-then-is_some w ↦ settled_first store id f after more (same ∙ sym c.is_some.ensures ∙ w.if-is_some.true)
-      | then-is_some-via-else-is_some+then-joins w ↦ settled_second store id f after more (same ∙ sym c.is_some.ensures ∙ w.if-is_some.false) ∙ ap (λ k. has_id m.client_id id (drop k (prefix after))) (sym c.requires.before) ∙ ap (λ i. has_id m.client_id i (drop c.args.before (prefix after))) (sym c.id_of-id.ensures) ∙ sym w.joins.ensures ∙ w.if-joins.true
+      | then-is_some-via-else-is_some+then-joins w ↦
+          settled_second store id f after more (same ∙ sym c.is_some.ensures ∙ w.if-is_some.false)
+          ∙ ap (λ k. has_id m.client_id id (drop k (prefix after))) (sym c.requires.before)
+          ∙ ap (λ i. has_id m.client_id i (drop c.args.before (prefix after)))
+          (sym c.id_of-id.ensures) ∙ sym w.joins.ensures ∙ w.if-joins.true
     ] in
     sym (ap (position_for_wanted store (config_of c.args.self.now) after) (sym c.in-Some.ensures) ∙ no_position store (config_of c.args.self.now) after command here)
 
@@ -40,6 +47,15 @@ returns-clause-next g c =
     let command = c.in-Some.command.now in
     let id = m.client_id command in
     let more = step_extends log c.args.step.now.change c.args.step.now.facts.items c.requires.latest in
-    let same : is_some (settling store (prefix f) id) ≡ is_some c.settled.result = ap (λ cs. is_some (settling store cs id)) (sym c.in_ok-feed.ensures.whole) ∙ ap (λ i. is_some (settling store (m.commands c.feed.new.machine) i)) (sym c.id_of-id.ensures) ∙ ap is_some (sym c.settled.ensures) ∙ some_as c.settled.result in
-    let here : is_some (settling store (prefix after) id) ≡ false = settled_second store id f after more (same ∙ sym c.is_some.ensures ∙ c.if-is_some.false) ∙ ap (λ k. has_id m.client_id id (drop k (prefix after))) (sym c.requires.before) ∙ ap (λ i. has_id m.client_id i (drop c.args.before (prefix after))) (sym c.id_of-id.ensures) ∙ sym c.joins.ensures ∙ c.if-joins.false in
-    next_some after c.args.after c.requires.after (omega arith) ∙ sym (ap (position_for_wanted store (config_of c.args.self.now) after) (sym c.in-Some.ensures) ∙ a_position store (config_of c.args.self.now) after command here)
+    let same : is_some (settling store (prefix f) id) ≡ is_some c.settled.result =
+    ap (λ cs. is_some (settling store cs id)) (sym c.in_ok-feed.ensures.whole)
+    ∙ ap (λ i. is_some (settling store (m.commands c.feed.new.machine) i))
+    (sym c.id_of-id.ensures) ∙ ap is_some (sym c.settled.ensures) ∙ some_as c.settled.result in
+    let here : is_some (settling store (prefix after) id) ≡ false =
+    settled_second store id f after more (same ∙ sym c.is_some.ensures ∙ c.if-is_some.false)
+    ∙ ap (λ k. has_id m.client_id id (drop k (prefix after))) (sym c.requires.before)
+    ∙ ap (λ i. has_id m.client_id i (drop c.args.before (prefix after)))
+    (sym c.id_of-id.ensures) ∙ sym c.joins.ensures ∙ c.if-joins.false in
+    next_some after c.args.after c.requires.after (omega arith)
+    ∙ sym (ap (position_for_wanted store (config_of c.args.self.now) after) (sym c.in-Some.ensures)
+    ∙ a_position store (config_of c.args.self.now) after command here)

@@ -21,4 +21,7 @@ returns-clause-plan g c = λ facts h.
     let rule : Config → (ℕ → Option g.row.C.Denot) → LogRule g.row.C.Denot = λ k l. on_accepted k l (logs.received_of roles.log) c.args.from c.args.position c.args.ballot c.args.command.now in
     let e = ap (λ k. rule k (logs.learned_of roles.log)) h.log_config ∙ ap (rule (config_of roles)) h.log in
     let made = c.in_ok-plan.ensures.plan facts (rule (logs.config_of roles.log) (logs.learned_of roles.log)) (u.stand facts h) c.in_ok-step.ensures.step in
-    retold (record roles { log = c.on_accepted.new.self }) c.in_ok-plan.plan store (config_of roles) facts (volatile_of (record roles { log = c.on_accepted.new.self })) (volatile_of roles) (rule (logs.config_of roles.log) (logs.learned_of roles.log)) (rule (config_of roles) (log_of facts)) u.volatile e made
+    retold (record roles { log = c.on_accepted.new.self }) c.in_ok-plan.plan store
+    (config_of roles) facts (volatile_of (record roles { log = c.on_accepted.new.self }))
+    (volatile_of roles) (rule (logs.config_of roles.log) (logs.learned_of roles.log))
+    (rule (config_of roles) (log_of facts)) u.volatile e made

@@ -9,6 +9,9 @@ returns-clause-plan g c = λ facts h.
     let roles = c.args.self.now in
     record {
       facts = refl;
-      messages = ap (λ v. v.items) c.replace-messages.ensures.value ∙ c.in_ok-step.ensures.step.messages ∙ ap (λ k. on_ask k (logs.learned_of roles.log) c.args.from c.args.position) h.log_config ∙ ap (λ f. on_ask (config_of roles) f c.args.from c.args.position) h.log;
+      messages = ap (λ v. v.items) c.replace-messages.ensures.value
+          ∙ c.in_ok-step.ensures.step.messages
+          ∙ ap (λ k. on_ask k (logs.learned_of roles.log) c.args.from c.args.position) h.log_config
+          ∙ ap (λ f. on_ask (config_of roles) f c.args.from c.args.position) h.log;
       volatile = refl;
     }

@@ -1,6 +1,6 @@
 use Rattle.std.proofs.Common.{sym, subst}
 use Rattle.ts_proposer.specs.Proposer.{config_of, state_of}
-use Rattle.ts_node.specs.Roles.{AllUsed}
+use Rattle.ts_node.specs.inside.Roles.{AllUsed}
 use Rattle.ts_node.proofs.Same.{same_proposer}
 use Rattle.ts_node.proofs.Used.{promise_rounds}
 use Rattle.ts_node.proofs.roles.Roles.plan_promise.Goals as goal

@@ -8,13 +8,15 @@ use Rattle.ts_log.specs.Log.{learned_of}
 use Rattle.ts_node.specs.Growing.{IsPart}
 use Rattle.ts_node.specs.Machine.{store_of}
 use Rattle.ts_node.specs.Roles.{StandFor, config_of}
-use Rattle.ts_node.specs.Staged.{IsHeld, IsSoFar}
+use Rattle.ts_node.specs.inside.Staged.{IsHeld, IsSoFar}
 use Rattle.ts_node.proofs.roles.Roles.take_own.Given as goal
 
 abbrev pub invariant-loop-look : goal.invariant-loop-look
 invariant-loop-look g l = record {
   looked : l.turn.looked ≡ l._look;
-  so_far : (config : Config) (kept : List (Fact g.row.C.Denot)) (volatile : world.Volatile g.row.C.Denot) (sent : List (Message g.row.C.Denot)) (event : world.Input g.row.C.Denot g.row.M-Question.Denot)
+  so_far : (config : Config) (kept : List (Fact g.row.C.Denot))
+      (volatile : world.Volatile g.row.C.Denot) (sent : List (Message g.row.C.Denot))
+      (event : world.Input g.row.C.Denot g.row.M-Question.Denot)
       → IsSoFar (store_of g.row.M-Question.Denot g.M.Machine.client_id g.M.Machine.outcome) config kept volatile sent event l.initial.self l.initial.turn
       → IsSoFar (store_of g.row.M-Question.Denot g.M.Machine.client_id g.M.Machine.outcome) config kept volatile sent event l.self l.turn;
   on : (kept : List (Fact g.row.C.Denot)) → StandFor l.initial.self (kept ++ l.initial.turn.facts.items) → StandFor l.self (kept ++ l.turn.facts.items);

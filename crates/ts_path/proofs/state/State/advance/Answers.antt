@@ -3,8 +3,8 @@ use Rattle.std.proofs.Common.{◌+◌, ap, ◌∙◌}
 use Rattle.ts_sig.specs.Key.{key_of}
 use Rattle.ts_cert.specs.Certificate.{KeyInfo}
 use Rattle.ts_cert.specs.CertView.{cert_in}
-use Rattle.ts_path.specs.State.{State}
-use Rattle.ts_path.specs.Judging.{key_after, state_after}
+use Rattle.ts_path.specs.State.{PathState}
+use Rattle.ts_path.specs.inside.Judging.{key_after, state_after}
 use Rattle.ts_path.proofs.state.State.advance.Goals as goal
 
 pub returns : goal.returns
@@ -17,4 +17,4 @@ returns c =
       usage = c.key_usage-self-inside.ensures i;
       sources = c.in_ok-narrow.ensures.ok i;
       counters = c.after-self-inside.ensures i;
-    }) ∙ ap (λ (s : State). state_after s (cert_in c.args.cert.now)) c.self.view_is
+    }) ∙ ap (λ (s : PathState). state_after s (cert_in c.args.cert.now)) c.self.view_is

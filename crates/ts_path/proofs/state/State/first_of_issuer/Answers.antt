@@ -1,7 +1,8 @@
 -- The conditions on a certificate that issues another.
 use Rattle.std.proofs.Common.{refl, sym, ◌∙◌}
 use Rattle.std.proofs.lemmas.Bool.{false≢true}
-use Rattle.ts_path.specs.Conditions.{Meets, not_ca, path_length, key_usage}
+use Rattle.ts_path.specs.Conditions.{Meets}
+use Rattle.ts_reason.specs.Conditions.{not_ca, path_length, key_usage}
 use Rattle.ts_path.proofs.Steps.{next}
 use Rattle.ts_path.proofs.state.State.first_of_issuer.Goals as goal
 

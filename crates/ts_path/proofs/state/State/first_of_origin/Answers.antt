@@ -1,7 +1,8 @@
 -- The conditions on the anchor, the signature and the time.
 use Rattle.std.proofs.Common.{refl, sym, ◌∙◌}
 use Rattle.std.proofs.lemmas.Bool.{false≢true}
-use Rattle.ts_path.specs.Conditions.{Meets, anchor_purpose, signature, too_early, expired}
+use Rattle.ts_path.specs.Conditions.{Meets}
+use Rattle.ts_reason.specs.Conditions.{anchor_purpose, signature, too_early, expired}
 use Rattle.ts_path.proofs.Steps.{begin, next}
 use Rattle.ts_path.proofs.state.State.first_of_origin.Goals as goal
 

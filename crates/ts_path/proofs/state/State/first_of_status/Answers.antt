@@ -1,9 +1,10 @@
 -- The conditions on revocation.
-use Rattle.std.proofs.Common.{◌≡◌, ℕ, Bool, true, false, sym, ◌∙◌}
+use Rattle.std.proofs.Common.{◌≡◌, ℕ, sym, ◌∙◌}
 use Rattle.std.proofs.lemmas.Bool.{false≢true}
 use Rattle.ts_revoke.specs.declared.verdict.Status.{Status}
 use Rattle.ts_revoke.specs.declared.verdict.Status.TheVariants.{Good, Revoked, Undetermined}
-use Rattle.ts_path.specs.Conditions.{Meets, revoked, undetermined}
+use Rattle.ts_path.specs.Conditions.{Meets}
+use Rattle.ts_reason.specs.Conditions.{revoked, undetermined}
 use Rattle.ts_path.proofs.Steps.{next}
 use Rattle.ts_path.proofs.state.State.first_of_status.Goals as goal
 

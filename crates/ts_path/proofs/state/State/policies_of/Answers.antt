@@ -2,7 +2,7 @@
 use Rattle.std.proofs.Common.{◌∙◌, ap}
 use Rattle.ts_name.proofs.SameNames.{same_is}
 use Rattle.ts_cert.specs.CertView.{cert_in}
-use Rattle.ts_path.specs.State.{State}
+use Rattle.ts_path.specs.State.{PathState}
 use Rattle.ts_path.proofs.state.State.policies_of.Goals as goal
 
 pub returns : goal.returns
@@ -14,6 +14,6 @@ returns c =
       mappings = e.mappings i;
       self_issued = same_is c.in_ok-stated.stated.self_issued t.issuer t.subject e.self_issued i;
       is_last = e.is_last i;
-      inhibit_any_policy = (e.inhibit_any_policy ∙ ap (λ (s : State). s.counters.inhibit_any_policy) c.self.view_is) i;
-      policy_mapping = (e.policy_mapping ∙ ap (λ (s : State). s.counters.policy_mapping) c.self.view_is) i;
+      inhibit_any_policy = (e.inhibit_any_policy ∙ ap (λ (s : PathState). s.counters.inhibit_any_policy) c.self.view_is) i;
+      policy_mapping = (e.policy_mapping ∙ ap (λ (s : PathState). s.counters.policy_mapping) c.self.view_is) i;
     }

@@ -1,5 +1,5 @@
 -- The last certificate.
-use Rattle.std.proofs.Common.{◌≡◌, ◌↔◌, Bool, true, false, List, [], ◌∷◌, map, refl, sym, ap, subst, ◌∙◌, inl}
+use Rattle.std.proofs.Common.{◌≡◌, ◌↔◌, true, false, List, [], ◌∷◌, map, refl, sym, ap, subst, ◌∙◌, inl}
 use Rattle.std.proofs.lemmas.Bool.{false≢true}
 use Rattle.ts_cert.specs.CertView.{cert_in}
 use Rattle.ts_policy.specs.Labels.{Label, In}
@@ -7,10 +7,11 @@ use Rattle.ts_policy.specs.Paths.{InT, count}
 use Rattle.ts_policy.specs.Accepted.{IsAccepted}
 use Rattle.ts_policy.specs.Seen.{Seen}
 use Rattle.ts_path.specs.declared.walk.Judged.{Judged}
-use Rattle.ts_path.specs.Conditions.{Site, Meets, Accepts, NoneAccepted, final_explicit, maps_any, not_ca, path_length, key_usage, final_policy, purpose}
+use Rattle.ts_path.specs.Conditions.{Site, Meets, Accepts, NoneAccepted, final_explicit}
+use Rattle.ts_reason.specs.Conditions.{maps_any, not_ca, path_length, key_usage, final_policy, purpose}
 use Rattle.ts_path.specs.Extensions.{explicit_policy_of}
-use Rattle.ts_path.specs.State.{State}
-use Rattle.ts_path.specs.Judging.{MeetsBelow, IsJudged, Took}
+use Rattle.ts_path.specs.State.{PathState}
+use Rattle.ts_path.specs.inside.Judging.{MeetsBelow, IsJudged, Took}
 use Rattle.ts_path.specs.View.{site_in}
 use Rattle.ts_path.proofs.Steps.{next}
 use Rattle.ts_path.proofs.walk.Walk.end.Goals as goal
@@ -37,7 +38,9 @@ accepted x p list took are = subst (λ (s : Seen). (q : Label) → In q list ↔
 
 pub returns-in-Some : goal.returns-in-Some
 returns-in-Some g c =
-    let x = site_in c.args.anchor.now c.args.inputs.now c.args.crls.now (g.S.SignatureCheck.accepts c.args.check.now) c.args.self.state c.args.self.policies.certificates (cert_in c.args.cert.now) true in
+    let x = site_in c.args.anchor.now c.args.inputs.now c.args.crls.now
+    (g.S.SignatureCheck.accepts c.args.check.now) c.args.self.state
+    c.args.self.policies.certificates (cert_in c.args.cert.now) true in
     let j = subst (λ (o : Judged). IsJudged x o) c.in-Met.is c.in_ok-met.ensures in
     let before = of_the_last x refl j.0 in
     c.in-Some.ensures x refl before
@@ -45,14 +48,16 @@ returns-in-Some g c =
 pub returns-then-accepts_none : goal.returns-then-accepts_none
 unfolding Meets
 returns-then-accepts_none g c =
-    let x = site_in c.args.anchor.now c.args.inputs.now c.args.crls.now (g.S.SignatureCheck.accepts c.args.check.now) c.args.self.state c.args.self.policies.certificates (cert_in c.args.cert.now) true in
+    let x = site_in c.args.anchor.now c.args.inputs.now c.args.crls.now
+    (g.S.SignatureCheck.accepts c.args.check.now) c.args.self.state
+    c.args.self.policies.certificates (cert_in c.args.cert.now) true in
     let j = subst (λ (o : Judged). IsJudged x o) c.in-Met.is c.in_ok-met.ensures in
     let before = of_the_last x refl j.0 in
-    let are = accepted x _ (map (λ p. p.now) c.in_ok-accepted.accepted.items) j.2 c.in_ok-accepted.ensures.accepted in
-    let explicit = c.final_explicit-explicit.ensures ∙ ap (λ (s : State). final_explicit s.counters.explicit_policy (explicit_policy_of (cert_in c.args.cert.now).tbsCertificate)) j.1 in
+    let are = accepted x _ (map (λ p. p.content.now) c.in_ok-accepted.accepted.items) j.2 c.in_ok-accepted.ensures.accepted in
+    let explicit = c.final_explicit-explicit.ensures ∙ ap (λ (s : PathState). final_explicit s.counters.explicit_policy (explicit_policy_of (cert_in c.args.cert.now).tbsCertificate)) j.1 in
     let h = c.if-accepts_none.ensures.0 refl in
     record {
-      fails = λ is. is refl (sym explicit ∙ h.0, none_in x _ are (ap (map (λ p. p.now)) (sym c.deref.ensures.value) ∙ h.1));
+      fails = λ is. is refl (sym explicit ∙ h.0, none_in x _ are (ap (map (λ p. p.content.now)) (sym c.deref.ensures.value) ∙ h.1));
       first = c.in_default.ensures x refl before;
       details = tt;
     }
@@ -60,23 +65,27 @@ returns-then-accepts_none g c =
 pub returns-then-not-is_meant_for : goal.returns-then-not-is_meant_for
 unfolding Meets
 returns-then-not-is_meant_for g c =
-    let x = site_in c.args.anchor.now c.args.inputs.now c.args.crls.now (g.S.SignatureCheck.accepts c.args.check.now) c.args.self.state c.args.self.policies.certificates (cert_in c.args.cert.now) true in
+    let x = site_in c.args.anchor.now c.args.inputs.now c.args.crls.now
+    (g.S.SignatureCheck.accepts c.args.check.now) c.args.self.state
+    c.args.self.policies.certificates (cert_in c.args.cert.now) true in
     let j = subst (λ (o : Judged). IsJudged x o) c.in-Met.is c.in_ok-met.ensures in
     let before = of_the_last x refl j.0 in
-    let are = accepted x _ (map (λ p. p.now) c.in_ok-accepted.accepted.items) j.2 c.in_ok-accepted.ensures.accepted in
-    let explicit = c.final_explicit-explicit.ensures ∙ ap (λ (s : State). final_explicit s.counters.explicit_policy (explicit_policy_of (cert_in c.args.cert.now).tbsCertificate)) j.1 in
+    let are = accepted x _ (map (λ p. p.content.now) c.in_ok-accepted.accepted.items) j.2 c.in_ok-accepted.ensures.accepted in
+    let explicit = c.final_explicit-explicit.ensures ∙ ap (λ (s : PathState). final_explicit s.counters.explicit_policy (explicit_policy_of (cert_in c.args.cert.now).tbsCertificate)) j.1 in
     let final = next x final_policy (c.in_default.ensures x refl before)
-    (λ _ no. false≢true (c.if-accepts_none.ensures.1 (explicit ∙ no.0, ap (map (λ p. p.now)) c.deref.ensures.value ∙ is_none x _ are no.1))) in
+    (λ _ no. false≢true (c.if-accepts_none.ensures.1 (explicit ∙ no.0, ap (map (λ p. p.content.now)) c.deref.ensures.value ∙ is_none x _ are no.1))) in
     record { fails = λ is. false≢true (c.if-not-is_meant_for.ensures ∙ is refl); first = final; details = tt }
 
 pub returns : goal.returns
 unfolding Meets
 returns g c =
-    let x = site_in c.args.anchor.now c.args.inputs.now c.args.crls.now (g.S.SignatureCheck.accepts c.args.check.now) c.args.self.state c.args.self.policies.certificates (cert_in c.args.cert.now) true in
+    let x = site_in c.args.anchor.now c.args.inputs.now c.args.crls.now
+    (g.S.SignatureCheck.accepts c.args.check.now) c.args.self.state
+    c.args.self.policies.certificates (cert_in c.args.cert.now) true in
     let j = subst (λ (o : Judged). IsJudged x o) c.in-Met.is c.in_ok-met.ensures in
     let before = of_the_last x refl j.0 in
-    let are = accepted x _ (map (λ p. p.now) c.in_ok-accepted.accepted.items) j.2 c.in_ok-accepted.ensures.accepted in
-    let explicit = c.final_explicit-explicit.ensures ∙ ap (λ (s : State). final_explicit s.counters.explicit_policy (explicit_policy_of (cert_in c.args.cert.now).tbsCertificate)) j.1 in
+    let are = accepted x _ (map (λ p. p.content.now) c.in_ok-accepted.accepted.items) j.2 c.in_ok-accepted.ensures.accepted in
+    let explicit = c.final_explicit-explicit.ensures ∙ ap (λ (s : PathState). final_explicit s.counters.explicit_policy (explicit_policy_of (cert_in c.args.cert.now).tbsCertificate)) j.1 in
     let final = next x final_policy (c.in_default.ensures x refl before)
-    (λ _ no. false≢true (c.if-accepts_none.ensures.1 (explicit ∙ no.0, ap (map (λ p. p.now)) c.deref.ensures.value ∙ is_none x _ are no.1))) in
+    (λ _ no. false≢true (c.if-accepts_none.ensures.1 (explicit ∙ no.0, ap (map (λ p. p.content.now)) c.deref.ensures.value ∙ is_none x _ are no.1))) in
     (next x purpose final (λ _. sym c.if-not-is_meant_for.ensures), are, c.in_ok-accepted.ensures.ascending)

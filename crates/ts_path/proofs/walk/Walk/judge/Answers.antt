@@ -1,9 +1,10 @@
 -- The conditions up to that on the valid policy tree.
-use Rattle.std.proofs.Common.{◌≡◌, Bool, false, List, ◌∷◌, refl, sym, ap, subst, ◌∙◌}
+use Rattle.std.proofs.Common.{◌≡◌, false, List, ◌∷◌, refl, sym, ap, subst, ◌∙◌}
 use Rattle.std.proofs.lemmas.Bool.{false≢true}
 use Rattle.ts_policy.specs.Paths.{CertPolicies, MapsNoAny}
 use Rattle.ts_policy.specs.Seen.{Seen, InPaths}
-use Rattle.ts_path.specs.Conditions.{Meets, policy_required}
+use Rattle.ts_path.specs.Conditions.{Meets}
+use Rattle.ts_reason.specs.Conditions.{policy_required}
 use Rattle.ts_path.proofs.Steps.{next}
 use Rattle.ts_path.proofs.walk.Walk.judge.Goals as goal
 

@@ -1,9 +1,9 @@
 use Rattle.std.proofs.Common.{Bool, true, false, List, [], ◌∷◌, ◌≡◌, ◌∙◌, ap, sym, subst, subst₂, map}
 use Rattle.ts_policy.specs.Certificates.{policies_in}
 use Rattle.ts_policy.specs.Paths.{CertPolicies}
-use Rattle.ts_policy.specs.Layers.{Layer, newest, IsNext}
-use Rattle.ts_policy.specs.Links.{link_in}
-use Rattle.ts_policy.specs.Kept.{Stand}
+use Rattle.ts_policy.specs.inside.Layers.{Layer, newest, IsNext}
+use Rattle.ts_policy.specs.inside.Links.{link_in}
+use Rattle.ts_policy.specs.inside.Kept.{Stand}
 use Rattle.ts_policy.specs.Seen.{Seen}
 use Rattle.ts_policy.proofs.KeptLaw.{newest-push, stand_taken}
 use Rattle.ts_policy.proofs.policies.Policies.certificate.Goals as goal

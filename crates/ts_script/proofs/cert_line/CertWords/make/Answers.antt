@@ -3,9 +3,9 @@ use Rattle.std.proofs.Common.{◌∙◌, refl, subst, ℕ, ℤ, List, sym}
 use Rattle.std.proofs.lemmas.Result.{err_from_is_err_and}
 use Rattle.ts_time.specs.Text.{IsGeneral}
 use Rattle.ts_make.specs.declared.description.CertText.{CertText}
-use Rattle.ts_make.specs.Made.{made as made_octets}
-use Rattle.ts_script.specs.Words.{IsNumber}
-use Rattle.ts_script.specs.Known.{known_in, thing_in, named}
+use Rattle.ts_make.specs.Made.{made_certificate as made_octets}
+use Rattle.ts_literal.specs.Literals.{IsNumber}
+use Rattle.ts_script.specs.Known.{known_in, thing_in, thing_named}
 use Rattle.ts_script.specs.CertLine.{IsSaid, IsUnreadable}
 use Rattle.ts_script.proofs.Answering.{form_of_none, some_of_ok, found_some, found_none, made_long, made_unreadable, made_stands, long_stands}
 use Rattle.ts_script.proofs.OneCertificate.{one_made}
@@ -34,7 +34,7 @@ returns-in_err-to-clause-fault c =
 pub returns-in-Err-TooLong-clause-fault : goal.returns-in-Err-TooLong-clause-fault
 returns-in-Err-TooLong-clause-fault c =
     let words = c.args.self.now in
-    let serial = some_of_ok (NoNumber words.serial.now) (IsNumber words.serial.now) c.number_of.result c.in_ok-serial.serial c.in_ok-serial.ensures.value c.number_of.ensures in
+    let serial = some_of_ok (NoNumber words.serial.now) (IsNumber words.serial.now) c.number_of_octets.result c.in_ok-serial.serial c.in_ok-serial.ensures.value c.number_of_octets.ensures in
     let from = some_of_ok (NoTime words.from.now) (IsGeneral words.from.now) c.moment_of.result c.in_ok-from.from c.in_ok-from.ensures.value c.moment_of.ensures in
     let to = some_of_ok (NoTime words.to.now) (IsGeneral words.to.now) c.moment_of-2.result c.in_ok-to.to c.in_ok-to.ensures.value c.moment_of-2.ensures in
     let text : CertText = record {
@@ -63,13 +63,13 @@ returns-in-Err-TooLong-clause-fault c =
       octets,
       (text, said, made.0, made.1, made.2, made.3, refl),
       long_stands octets long,
-      found_some (λ one. thing_in one.now) c.find.result (named (known_in c.args.known.now) words.name.now) (sym c.is_some-is_taken.ensures ∙ c.if-is_taken.true) c.find.ensures,
+      found_some (λ one. thing_in one.now) c.find.result (thing_named (known_in c.args.known.now) words.name.now) (sym c.is_some-is_taken.ensures ∙ c.if-is_taken.true) c.find.ensures,
     )
 
 pub returns-in-Err-TooLong-2-clause-fault : goal.returns-in-Err-TooLong-2-clause-fault
 returns-in-Err-TooLong-2-clause-fault c =
     let words = c.args.self.now in
-    let serial = some_of_ok (NoNumber words.serial.now) (IsNumber words.serial.now) c.number_of.result c.in_ok-serial.serial c.in_ok-serial.ensures.value c.number_of.ensures in
+    let serial = some_of_ok (NoNumber words.serial.now) (IsNumber words.serial.now) c.number_of_octets.result c.in_ok-serial.serial c.in_ok-serial.ensures.value c.number_of_octets.ensures in
     let from = some_of_ok (NoTime words.from.now) (IsGeneral words.from.now) c.moment_of.result c.in_ok-from.from c.in_ok-from.ensures.value c.moment_of.ensures in
     let to = some_of_ok (NoTime words.to.now) (IsGeneral words.to.now) c.moment_of-2.result c.in_ok-to.to c.in_ok-to.ensures.value c.moment_of-2.ensures in
     let text : CertText = record {
@@ -97,14 +97,14 @@ returns-in-Err-TooLong-2-clause-fault c =
     let long = made_long c.make_cert-made.result c.in-Err-TooLong-2.field-0 octets made.4 c.in-Err-TooLong-2.is (rw c.in-Err-TooLong-2.is at c.in-Err-TooLong-2.field-0-is) in (
       octets,
       (text, said, made.0, made.1, made.2, made.3, refl),
-      found_none (λ one. thing_in one.now) c.find.result (named (known_in c.args.known.now) words.name.now) (sym c.is_some-is_taken.ensures ∙ c.if-is_taken.false) c.find.ensures,
+      found_none (λ one. thing_in one.now) c.find.result (thing_named (known_in c.args.known.now) words.name.now) (sym c.is_some-is_taken.ensures ∙ c.if-is_taken.false) c.find.ensures,
       long,
     )
 
 pub returns-in-Ok-clause-fault : goal.returns-in-Ok-clause-fault
 returns-in-Ok-clause-fault c =
     let words = c.args.self.now in
-    let serial = some_of_ok (NoNumber words.serial.now) (IsNumber words.serial.now) c.number_of.result c.in_ok-serial.serial c.in_ok-serial.ensures.value c.number_of.ensures in
+    let serial = some_of_ok (NoNumber words.serial.now) (IsNumber words.serial.now) c.number_of_octets.result c.in_ok-serial.serial c.in_ok-serial.ensures.value c.number_of_octets.ensures in
     let from = some_of_ok (NoTime words.from.now) (IsGeneral words.from.now) c.moment_of.result c.in_ok-from.from c.in_ok-from.ensures.value c.moment_of.ensures in
     let to = some_of_ok (NoTime words.to.now) (IsGeneral words.to.now) c.moment_of-2.result c.in_ok-to.to c.in_ok-to.ensures.value c.moment_of-2.ensures in
     let text : CertText = record {
@@ -132,13 +132,13 @@ returns-in-Ok-clause-fault c =
       octets,
       (text, said, made.0, made.1, made.2, made.3, refl),
       made_stands c.make_cert-made.result c.in-Ok.field-0 octets made.4 c.in-Ok.is,
-      found_some (λ one. thing_in one.now) c.find.result (named (known_in c.args.known.now) words.name.now) (sym c.is_some-is_taken.ensures ∙ c.if-is_taken-2.true) c.find.ensures,
+      found_some (λ one. thing_in one.now) c.find.result (thing_named (known_in c.args.known.now) words.name.now) (sym c.is_some-is_taken.ensures ∙ c.if-is_taken-2.true) c.find.ensures,
     )
 
 pub returns-in-Err-Unreadable-clause-fault : goal.returns-in-Err-Unreadable-clause-fault
 returns-in-Err-Unreadable-clause-fault c = λ octets is.
     let words = c.args.self.now in
-    let serial = some_of_ok (NoNumber words.serial.now) (IsNumber words.serial.now) c.number_of.result c.in_ok-serial.serial c.in_ok-serial.ensures.value c.number_of.ensures in
+    let serial = some_of_ok (NoNumber words.serial.now) (IsNumber words.serial.now) c.number_of_octets.result c.in_ok-serial.serial c.in_ok-serial.ensures.value c.number_of_octets.ensures in
     let from = some_of_ok (NoTime words.from.now) (IsGeneral words.from.now) c.moment_of.result c.in_ok-from.from c.in_ok-from.ensures.value c.moment_of.ensures in
     let to = some_of_ok (NoTime words.to.now) (IsGeneral words.to.now) c.moment_of-2.result c.in_ok-to.to c.in_ok-to.ensures.value c.moment_of-2.ensures in
     let text : CertText = record {
@@ -164,5 +164,7 @@ returns-in-Err-Unreadable-clause-fault c = λ octets is.
     let made = c.make_cert-made.ensures.made in
     let here = made_octets made.0 made.1 text in
     let one = one_made words here octets (text, said, made.0, made.1, made.2, made.3, refl) is in
-    let because = made_unreadable c.make_cert-made.result c.in-Err-Unreadable.field-0 c.in-Err-Unreadable.field-0-0 here made.4 c.in-Err-Unreadable.is (rw c.in-Err-Unreadable.is at c.in-Err-Unreadable.field-0-is) in
+    let because = made_unreadable c.make_cert-made.result c.in-Err-Unreadable.field-0
+    c.in-Err-Unreadable.field-0-0 here made.4 c.in-Err-Unreadable.is
+    (rw c.in-Err-Unreadable.is at c.in-Err-Unreadable.field-0-is) in
     subst IsUnreadable one because

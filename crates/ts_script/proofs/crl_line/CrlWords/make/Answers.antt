@@ -5,8 +5,8 @@ use Rattle.ts_time.specs.Text.{IsGeneral}
 use Rattle.ts_make.specs.declared.crl_description.CrlText.{CrlText}
 use Rattle.ts_make.specs.CrlMade.{made_crl}
 use Rattle.ts_script.specs.CrlLineWords.{CrlPart, Gather, AreFields, fields_of}
-use Rattle.ts_script.specs.CrlParts.{crl_parts}
-use Rattle.ts_script.specs.Known.{known_in, thing_in, named}
+use Rattle.ts_script.specs.inside.CrlParts.{crl_parts}
+use Rattle.ts_script.specs.Known.{known_in, thing_in, thing_named}
 use Rattle.ts_script.specs.CrlLine.{crl_words, IsListSaid, IsNoCrl}
 use Rattle.ts_script.proofs.Answering.{form_of_none, some_of_ok, found_some, found_none}
 use Rattle.ts_script.proofs.CrlReading.{one_crl_words}
@@ -74,7 +74,7 @@ returns-in-Err-TooLong-clause-fault c =
       octets,
       (text, said, made.0, made.1, made.2, made.3, refl),
       long_crl octets long,
-      found_some (λ one. thing_in one.now) c.find.result (named (known_in c.args.known.now) words.name.now) (sym c.is_some-is_taken.ensures ∙ c.if-is_taken.true) c.find.ensures,
+      found_some (λ one. thing_in one.now) c.find.result (thing_named (known_in c.args.known.now) words.name.now) (sym c.is_some-is_taken.ensures ∙ c.if-is_taken.true) c.find.ensures,
     )
 
 pub returns-in-Err-TooLong-2-clause-fault : goal.returns-in-Err-TooLong-2-clause-fault
@@ -111,7 +111,7 @@ returns-in-Err-TooLong-2-clause-fault c =
     let long = crl_long c.make_crl-made.result c.in-Err-TooLong-2.field-0 octets made.4 c.in-Err-TooLong-2.is (rw c.in-Err-TooLong-2.is at c.in-Err-TooLong-2.field-0-is) in (
       octets,
       (text, said, made.0, made.1, made.2, made.3, refl),
-      found_none (λ one. thing_in one.now) c.find.result (named (known_in c.args.known.now) words.name.now) (sym c.is_some-is_taken.ensures ∙ c.if-is_taken.false) c.find.ensures,
+      found_none (λ one. thing_in one.now) c.find.result (thing_named (known_in c.args.known.now) words.name.now) (sym c.is_some-is_taken.ensures ∙ c.if-is_taken.false) c.find.ensures,
       long,
     )
 
@@ -149,7 +149,7 @@ returns-in-Ok-clause-fault c =
       octets,
       (text, said, made.0, made.1, made.2, made.3, refl),
       crl_stands c.make_crl-made.result c.in-Ok.field-0 octets made.4 c.in-Ok.is,
-      found_some (λ one. thing_in one.now) c.find.result (named (known_in c.args.known.now) words.name.now) (sym c.is_some-is_taken.ensures ∙ c.if-is_taken-2.true) c.find.ensures,
+      found_some (λ one. thing_in one.now) c.find.result (thing_named (known_in c.args.known.now) words.name.now) (sym c.is_some-is_taken.ensures ∙ c.if-is_taken-2.true) c.find.ensures,
     )
 
 pub returns-in-Err-Unreadable-clause-fault : goal.returns-in-Err-Unreadable-clause-fault
@@ -184,5 +184,7 @@ returns-in-Err-Unreadable-clause-fault c = λ octets is.
     let made = c.make_crl-made.ensures.made in
     let here = made_crl made.0 made.1 text in
     let one = one_crl_made words here octets (text, said, made.0, made.1, made.2, made.3, refl) is in
-    let because = crl_unreadable c.make_crl-made.result c.in-Err-Unreadable.field-0 c.in-Err-Unreadable.field-0-0 here made.4 c.in-Err-Unreadable.is (rw c.in-Err-Unreadable.is at c.in-Err-Unreadable.field-0-is) in
+    let because = crl_unreadable c.make_crl-made.result c.in-Err-Unreadable.field-0
+    c.in-Err-Unreadable.field-0-0 here made.4 c.in-Err-Unreadable.is
+    (rw c.in-Err-Unreadable.is at c.in-Err-Unreadable.field-0-is) in
     subst IsNoCrl one because

@@ -6,7 +6,7 @@ use Rattle.ts_script.specs.Pieces.{pieces_of, pieces_behind}
 use Rattle.ts_script.specs.Words.{RefusesWord}
 use Rattle.ts_script.specs.Parts.{Part}
 use Rattle.ts_script.specs.ExtensionWords.{keyword_text, SaysValue, SaysWith, IsWord}
-use Rattle.ts_script.specs.OwnedParts.{parts_of}
+use Rattle.ts_script.specs.inside.OwnedParts.{parts_of}
 use Rattle.ts_script.proofs.Answering.{form_of_none, some_of_ok}
 use Rattle.ts_script.proofs.Decoding.{refused_more}
 use Rattle.ts_script.proofs.Keywords.{word_said, word_says, no_word}

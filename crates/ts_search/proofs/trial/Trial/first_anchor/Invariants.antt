@@ -3,7 +3,7 @@ use Rattle.std.proofs.Common.{◌≡◌, ◌++◌, List, length, map, drop}
 use Rattle.ts_cert.specs.CertView.{cert_in}
 use Rattle.ts_path.specs.Asked.{TrustAnchor}
 use Rattle.ts_path.specs.View.{anchor_in, asked_under}
-use Rattle.ts_search.specs.Dead.{AreDeadUnder, fronts_in}
+use Rattle.ts_search.specs.inside.Dead.{AreDeadUnder, fronts_in}
 use Rattle.ts_search.specs.Search.{NoneUnder}
 use Rattle.ts_search.proofs.trial.Trial.first_anchor.Given as goal
 

@@ -2,7 +2,7 @@
 use Rattle.std.proofs.Common.{◌≡◌, ◌++◌, List, ℕ, length, map, drop}
 use Rattle.ts_cert.specs.CertView.{cert_in}
 use Rattle.ts_path.specs.View.{anchor_in, asked_under}
-use Rattle.ts_search.specs.Dead.{AreDeadUnder, fronts_in}
+use Rattle.ts_search.specs.inside.Dead.{AreDeadUnder, fronts_in}
 use Rattle.ts_search.specs.Search.{NoneOf}
 use Rattle.ts_search.specs.View.{search_among}
 use Rattle.ts_search.proofs.trial.Trial.first_valid.Given as goal

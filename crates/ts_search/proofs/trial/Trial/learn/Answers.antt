@@ -1,9 +1,10 @@
-use Rattle.std.proofs.Common.{◌≡◌, ◌∙◌, List, ℕ, length, map, take, sym, ap, subst}
+use Rattle.std.proofs.Common.{◌≡◌, ◌∙◌, List, length, map, sym, ap, subst}
 use Rattle.ts_cert.specs.Certificate.{Certificate}
 use Rattle.ts_cert.specs.CertView.{cert_in}
-use Rattle.ts_path.specs.Verdict.{condition_of, Holds}
+use Rattle.ts_path.specs.Verdict.{HoldsAt}
+use Rattle.ts_reason.specs.View.{condition_of}
 use Rattle.ts_path.specs.View.{anchor_in, asked_under}
-use Rattle.ts_search.specs.Dead.{AreDead, IsDead}
+use Rattle.ts_search.specs.inside.Dead.{AreDead, IsDead}
 use Rattle.ts_search.specs.Search.{certificates_at, question}
 use Rattle.ts_search.proofs.DeadFronts.{front-is-dead}
 use Rattle.ts_search.proofs.Rows.{map_more}
@@ -20,7 +21,7 @@ returns-in_ok-push g c =
     let places = c.args.places.now in
     let k = condition_of c.args.reason.now in
     let each : length (certificates_at certificates places) ≡ length places = sym (ap length c.requires.at) ∙ (length_map cert_in c.args.chain.now ∙ c.if-chain-places.true) in
-    let P : List Certificate → Type 0 = λ chain. ¬ (Holds k (question asked chain anchor) c.args.position) in
+    let P : List Certificate → Type 0 = λ chain. ¬ (HoldsAt k (question asked chain anchor) c.args.position) in
     let dead = front-is-dead asked certificates anchor places c.args.position k (c.is_of_front.ensures.0 c.if-is_of_front.true) each (subst P c.requires.at c.requires.verdict.0.fails) in
     let here = subst (IsDead asked certificates anchor) (sym c.in_ok-front_of.ensures) dead in
     subst (AreDead asked certificates anchor) (sym (ap (map (λ f. f.items)) c.in_ok-push.ensures.items ∙ map_more (λ f. f.items) c.args.fronts.now.items c.in_ok-front_of.field-0))

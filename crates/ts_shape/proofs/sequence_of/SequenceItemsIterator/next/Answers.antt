@@ -15,7 +15,9 @@ returns-in-Ok-clause-steps g c =
 pub returns-in-Ok-clause-goes : goal.returns-in-Ok-clause-goes
 returns-in-Ok-clause-goes g c =
     let items = items_at g.T.FromElement.reading in
-    let shorter : length (items c.next_item.new.rest) < length (items c.args.self.now.rest) = subst (λ (xs : List g.T.FromElement.Record). length (items c.next_item.new.rest) < length xs) (sym (returns-in-Ok-clause-steps g c)) (omega arith) in
+    let shorter : length (items c.next_item.new.rest) < length (items c.args.self.now.rest) =
+    subst (λ (xs : List g.T.FromElement.Record). length (items c.next_item.new.rest) < length
+    xs) (sym (returns-in-Ok-clause-steps g c)) (omega arith) in
     record { on = λ _. (tt, tt, shorter); keeps = tt; rests = λ _. tt }
 
 pub returns-in-Err-clause-steps : goal.returns-in-Err-clause-steps

@@ -1,0 +1,3 @@
+pub mod AllLocated
+pub mod Layout
+pub mod Period

@@ -1,0 +1,10 @@
+pub mod Directories
+pub mod Directory
+pub mod Ending
+pub mod Fronts
+pub mod Hosts
+pub mod Quads
+pub mod RangeTable
+pub mod Ranges
+pub mod Sought
+pub mod Table

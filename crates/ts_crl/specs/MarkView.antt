@@ -1,7 +1,0 @@
--- What contracts see of an entry that is known by its serial number.
-use Rattle.ts_der.specs.View.{now}
-use Rattle.ts_crl.specs.declared.mark.Mark.{Mark as Lent}
-use Rattle.ts_crl.specs.Marks.{Mark}
-
-abbrev pub mark_as : Lent → Mark
-mark_as m = record { userCertificate = m.serial_number.now; entry = now m.entry }

@@ -1,0 +1,4 @@
+pub mod Findings
+pub mod Kept
+pub mod MarkView
+pub mod Marks

@@ -1,0 +1,2 @@
+pub mod DottedReading
+pub mod Written

@@ -1,0 +1,3 @@
+pub mod Lab
+pub mod Member
+pub mod Scanner

@@ -1,0 +1,2 @@
+pub mod TimeView
+pub mod Writing

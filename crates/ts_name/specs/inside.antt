@@ -1,0 +1,3 @@
+pub mod Folding
+pub mod Gaps
+pub mod Sorted

@@ -1,0 +1,4 @@
+pub mod Kept
+pub mod LabelSet
+pub mod Layers
+pub mod Links

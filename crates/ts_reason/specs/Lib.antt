@@ -1,0 +1,4 @@
+pub mod Conditions
+pub mod View
+pub mod Printed
+pub mod Octets

@@ -1,6 +1,0 @@
-use Rattle.std.proofs.Common.{◌≡◌, take}
-use Rattle.ts_record.specs.Facts.{encodings}
-use Rattle.ts_record.proofs.writing.encoded.Given as goal
-
-abbrev pub invariant-loop-fact : goal.invariant-loop-fact
-invariant-loop-fact g l = l.octets.items ≡ encodings g.C.Codec.octets (take l.fact-index l.facts)

@@ -1,0 +1,2 @@
+pub mod CrlParts
+pub mod OwnedParts

@@ -1,0 +1,3 @@
+pub mod Dead
+pub mod Levels
+pub mod Trial

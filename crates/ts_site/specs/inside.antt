@@ -1,0 +1,5 @@
+pub mod Asking
+pub mod Commanding
+pub mod Request
+pub mod Response
+pub mod Routes

@@ -1,0 +1,2 @@
+pub mod FrameReading
+pub mod Taking
