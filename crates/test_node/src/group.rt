@@ -2,8 +2,9 @@
 //! test delivers, and a node whose device fails is opened again from what a crash leaves of its
 //! disks.
 
-ghost use Rattle.std.specs.Prelude.{◌≤◌, ◌∷◌, [], IfOk, IsTrue};
+ghost use Rattle.std.specs.Prelude.{◌≤◌, ◌∷◌, [], IfOk, IsTrue, OnOk};
 ghost use Rattle.ts_disk.specs.Memory.{state_of};
+ghost use Rattle.ts_node.specs.Ahead.{IsAhead};
 ghost use Rattle.ts_node.specs.Node.{IsSound};
 ghost use Rattle.ts_node.specs.Inputs.{BodyFits, InputFits};
 ghost use Rattle.ts_record.specs.Facts.{IsBallot, IsPosition};
@@ -148,6 +149,43 @@ fn open_again(alloc: Global, a: MemDisk, b: MemDisk) -> Result<Small, RefusedNod
     }
 }
 
+/// Has a node learn a command at a position; the fact waits in memory behind others.
+fn learn_at(
+    node: &mut Small,
+    staged: &mut StagedFacts<Number>,
+    position: u32,
+    command: Number,
+) -> Result<(), NodeFault>
+    requires { IsAhead state_of (λ (number : Number). number.value ∷ [])
+        (λ (machine : Takes). machine.commands.items) node.old staged.old }
+    ensures { IsAhead state_of (λ (number : Number). number.value ∷ [])
+        (λ (machine : Takes). machine.commands.items) node.new staged.new }
+{
+    let give = Message {
+        from: 1,
+        to: 1,
+        body: Body::Give { position, command },
+    };
+    match Sent::new(give) {
+        Some(sent) => node.stage(sent.input(), staged).map(drop),
+        None => Err(NodeFault::Memory),
+    }
+}
+
+/// Has a node learn a command at every position of the log.
+fn learn_everywhere(alloc: Global, node: &mut Small, command: Number) -> Result<(), NodeFault>
+    requires { IsSound state_of (λ (number : Number). number.value ∷ [])
+        (λ (machine : Takes). machine.commands.items) node.old }
+    ensures { OnOk result (IsSound state_of (λ (number : Number). number.value ∷ [])
+        (λ (machine : Takes). machine.commands.items) node.new) }
+{
+    let mut staged = StagedFacts::empty(alloc);
+    for position in 1..=1_000_000 {
+        learn_at(node, &mut staged, position, command)?;
+    }
+    node.keep_staged(&mut staged)
+}
+
 /// A node, and what it had learned when it was last asked.
 #[derive(Drop)]
 pub(crate) struct Member {
@@ -286,19 +324,7 @@ impl Member {
     /// facts wait in memory as long as a record can keep them together.
     pub fn with_full_log(self, alloc: Global, command: Number) -> Result<Member, NodeFault> {
         let Member { mut node, learned } = self;
-        let mut staged = StagedFacts::empty(alloc);
-        for position in 1..=1_000_000 {
-            let give = Message {
-                from: 1,
-                to: 1,
-                body: Body::Give { position, command },
-            };
-            let Some(sent) = Sent::new(give) else {
-                return Err(NodeFault::Memory);
-            };
-            node.stage(sent.input(), &mut staged)?;
-        }
-        node.keep_staged(&mut staged)?;
+        learn_everywhere(alloc, &mut node, command)?;
         Ok(Member { node, learned })
     }
 
