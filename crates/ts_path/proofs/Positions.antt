@@ -26,10 +26,10 @@ length_chained : (above others : List Certificate) → length (chained above oth
 length_chained [] others = omega arith
 length_chained (c ∷ above) others = let e = length_chained above (c ∷ others) in omega (arith, e)
 
-head_is : (c d : Certificate) (cs ds : List Certificate) → c ∷ cs ≡ d ∷ ds → c ≡ d
+pub head_is : (c d : Certificate) (cs ds : List Certificate) → c ∷ cs ≡ d ∷ ds → c ≡ d
 head_is c d cs ds e = cc
 
-tail_is : (c d : Certificate) (cs ds : List Certificate) → c ∷ cs ≡ d ∷ ds → cs ≡ ds
+pub tail_is : (c d : Certificate) (cs ds : List Certificate) → c ∷ cs ≡ d ∷ ds → cs ≡ ds
 tail_is c d cs ds e = cc
 
 same_parts : (a b xs ys : List Certificate) → length a ≡ length b → chained a xs ≡ chained b ys → (a ≡ b) × (xs ≡ ys)
@@ -45,7 +45,7 @@ one_link chain i l m s t =
     let p = same_parts l.above m.above (l.certificate ∷ l.below) (m.certificate ∷ m.below) (omega (arith, s.position_is, t.position_is)) (sym s.chain_is ∙ t.chain_is) in
     λ i. record { above = p.0 i; certificate = head_is l.certificate m.certificate l.below m.below p.1 i; below = tail_is l.certificate m.certificate l.below m.below p.1 i }
 
-within : (chain : List Certificate) (i : ℕ) (l : Link) → Stands chain i l → (1 ≤ i) × (i ≤ length chain)
+pub within : (chain : List Certificate) (i : ℕ) (l : Link) → Stands chain i l → (1 ≤ i) × (i ≤ length chain)
 within chain i l s =
     let n = ap length s.chain_is ∙ length_chained l.above (l.certificate ∷ l.below) in
     (omega (arith, s.position_is), omega (arith, s.position_is, n))

@@ -3,8 +3,10 @@ pub mod Asked
 pub mod Chain
 pub mod Counters
 pub mod WorkingKey
+pub mod Inherited
 pub mod Purposes
 pub mod Extensions
+pub mod PathLength
 pub mod State
 pub mod Conditions
 pub mod Verdict

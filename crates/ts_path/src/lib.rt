@@ -23,7 +23,10 @@
 //! - `Inputs::at`: the inputs that ask for nothing but a moment (`moment`, `purpose`, `policies`,
 //!   `names`, `revocation`).
 //! - A reason is one of `ts_reason`, whose object identifier lies in the certificate.
-//! - law (`laws`): a question has one verdict (`one_verdict`: `least`, `invalid`).
+//! - laws (`laws`): a question has one verdict (`one_verdict`: `least`, `invalid`, `same`). The
+//!   condition on path lengths is the sentence of RFC 5280 4.2.1.9 (`path_lengths`: `chain`,
+//!   `certificate`, `self_issued`). The parameters of a working key are those of the nearest key
+//!   that states some (`inherited_parameters`: `some`, `none`).
 //!
 //! Each condition is a statement of its own on what is asked, the state variables of RFC 5280 6.1.2
 //! at a certificate, and the certificate (`specs/Conditions.antt`), with its section of the
