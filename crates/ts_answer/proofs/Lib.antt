@@ -9,5 +9,9 @@ pub mod Pairs
 pub mod Cached
 pub mod Entries
 pub mod Alls
+pub mod Named
+pub mod Ascending
+pub mod FewNamed
+pub mod FewAccepted
 pub mod Places
 pub mod Pages

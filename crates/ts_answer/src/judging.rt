@@ -14,7 +14,7 @@ ghost use Rattle.ts_store.specs.declared.command.Command.{Command};
 ghost use Rattle.ts_question.specs.Question.{is_target};
 ghost use Rattle.ts_answer.specs.Parts.{subtree_base, certificates_of, first_part};
 ghost use Rattle.ts_answer.specs.Asked.{chain_of, question_of, search_of, trust_anchor};
-ghost use Rattle.ts_answer.specs.inside.Ranges.{InRange, IsAmong, IsPlaced};
+ghost use Rattle.ts_answer.specs.inside.Ranges.{InRange, IsAmong, IsSayable};
 ghost use Rattle.ts_answer.specs.Reply.{IsReply, IsReplyBy, IsTargetReply};
 ghost use Rattle.ts_answer.specs.inside.Trusted.{trusted_in};
 ghost use Rattle.ts_answer.specs.inside.View.{AreInputs, AreParts, IsJudged, IsOfTables};
@@ -48,7 +48,8 @@ fn inputs_of<'a>(
     requires policies { map (λ p. p.content.now) policies.now ≡ terms.now.user_policies }
     requires permitted { bases_in permitted.now ≡ map subtree_base terms.now.permitted_subtrees }
     requires excluded { bases_in excluded.now ≡ map subtree_base terms.now.excluded_subtrees }
-    ensures { AreInputs terms.now result }
+    ensures inputs { AreInputs terms.now result }
+    ensures policies { map (λ p. p.content.now) result.user_policies.now ≡ terms.now.user_policies }
 {
     let purpose = match &terms.purpose {
         Some(purpose) => Some(purpose.as_ref().content),
@@ -79,11 +80,12 @@ fn verdict_under<'a, S: SignatureCheck>(
 ) -> Result<Verdict<'a>, AllocError>
     requires some { 1 ≤ length chain.now }
     requires few { length chain.now ≤ 16 }
+    requires policies { length inputs.now.user_policies.now ≤ 32 }
     ensures verdict { (tables : Tables) (terms : _) (stored : _) (octets : _)
         → snapshot.now ≡ contents_of tables → AreInputs terms inputs.now
         → anchor_in anchor.now ≡ trust_anchor stored → map cert_in chain.now ≡ chain_of octets
         → IfOk result (IsVerdict (question_of (S.accepts check.now) tables terms stored octets)) }
-    ensures placed { IfOk result IsPlaced }
+    ensures sayable { IfOk result IsSayable }
 {
     let lists = lists_of(alloc, snapshot.complete())?;
     let deltas = lists_of(alloc, snapshot.deltas())?;
@@ -106,6 +108,7 @@ fn chain_reply<'a, S: SignatureCheck>(
 ) -> Result<Reply, AllocError>
     requires some { 1 ≤ length parts.certificates.items }
     requires few { length parts.certificates.items ≤ 16 }
+    requires policies { length terms.now.user_policies ≤ 32 }
     requires read { (octets : List (List ℕ)) × AreParts terms.now octets parts }
     ensures reply { (tables : Tables) (octets : List (List ℕ)) → snapshot.now ≡ contents_of tables
         → AreParts terms.now octets parts.entry
@@ -135,6 +138,7 @@ fn found_under<'a, S: SignatureCheck>(
 ) -> Result<SearchAnswer<'a>, AllocError>
     requires some { 1 ≤ length certificates.now }
     requires few { length certificates.now ≤ 33 }
+    requires policies { length inputs.now.user_policies.now ≤ 32 }
     ensures answer { (tables : Tables) (terms : _) (octets : _) → snapshot.now ≡ contents_of tables
         → AreInputs terms inputs.now → map trusted_in trusted.now ≡ map trust_anchor tables.anchors
         → map cert_in certificates.now ≡ chain_of octets
@@ -165,6 +169,7 @@ fn search_reply<'a, S: SignatureCheck>(
 ) -> Result<Reply, AllocError>
     requires some { 1 ≤ length parts.certificates.items }
     requires few { length parts.certificates.items ≤ 33 }
+    requires policies { length terms.now.user_policies ≤ 32 }
     requires read { (octets : List (List ℕ)) × AreParts terms.now octets parts }
     ensures reply { (tables : Tables) (octets : List (List ℕ)) → snapshot.now ≡ contents_of tables
         → AreParts terms.now octets parts.entry
@@ -195,6 +200,7 @@ fn target_reply<'a, S: SignatureCheck>(
 ) -> Result<Reply, AllocError>
     requires same { certificates.now ≡ certificates_of target.now }
     requires within { is_target target.now ≡ true }
+    requires policies { length terms.now.user_policies ≤ 32 }
     requires judged { IsJudged target.now }
     ensures reply { (tables : Tables) → snapshot.now ≡ contents_of tables
         → IfOk result (IsReplyBy (S.accepts check.now) tables

@@ -42,8 +42,7 @@
 //! # Not promised
 //!
 //! Only tested: that calls with ample memory answer. Neither proved nor tested: time, and that the
-//! cache is used. Not proved to be impossible, and answered as out of memory: 2^32 accepted
-//! policies.
+//! cache is used.
 #![tactic(auto)]
 
 mod answers;

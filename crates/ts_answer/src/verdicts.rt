@@ -5,7 +5,7 @@ ghost use Rattle.std.specs.List.{AllByRecursion};
 ghost use Rattle.ts_history.specs.Contents.{anchor_in as lent_in};
 ghost use Rattle.ts_question.specs.Reply.{are_countable};
 ghost use Rattle.ts_answer.specs.Parts.{unreadable};
-ghost use Rattle.ts_answer.specs.inside.Ranges.{InRange, IsAmong, IsPlaced};
+ghost use Rattle.ts_answer.specs.inside.Ranges.{AreFew, InRange, IsAmong, IsSayable};
 ghost use Rattle.ts_answer.specs.Reply.{SaysSearch, SaysVerdict};
 ghost use Rattle.ts_answer.specs.Reply.{malformed_reply as malformed_of};
 
@@ -28,15 +28,12 @@ pub(crate) fn malformed_reply(index: u8, fault: CertFault) -> Reply
     }
 }
 
-/// Accepted policies, with memory of their own. There are fewer than 2^32; no clause of a lower
-/// crate says so, and more are refused as memory is.
+/// Accepted policies, with memory of their own.
 fn policies_of(alloc: Global, policies: &[OidRef<'_>]) -> Result<Oids, AllocError>
+    requires { AreFew policies.now }
     ensures same { IfOk result (λ said. said ≡ map (λ p. p.content.now) policies.now) }
     ensures few { IfOk result (λ said. are_countable said ≡ true) }
 {
-    if policies.len() >= 1 << 32 {
-        return Err(AllocError);
-    }
     let mut oids = Vec::new(alloc);
     for policy in policies {
         oids.push(Oid::from_oid(alloc, *policy)?)?;
@@ -50,7 +47,7 @@ pub(crate) fn reply_of_verdict(
     anchor: [u8; 32],
     verdict: Verdict<'_>,
 ) -> Result<Reply, AllocError>
-    requires { IsPlaced verdict }
+    requires { IsSayable verdict }
     ensures said { IfOk result (λ reply. SaysVerdict anchor verdict.entry reply) }
     ensures within { IfOk result InRange }
 {

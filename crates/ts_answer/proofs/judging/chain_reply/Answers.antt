@@ -13,7 +13,7 @@ returns-clause-reply g c = λ tables octets same are.
     subst (λ (o : Option TrustAnchor). IsChainReply good tables c.args.terms.now octets o c.in_ok-reply.reply) (sym found) (
       c.in_ok-verdict.verdict,
       c.in_ok-verdict.ensures.verdict tables c.args.terms.now (anchor_in c.in-Some.stored) octets
-          same c.inputs_of-inputs.ensures (c.anchor-anchor.ensures ∙ c.of-trusted.ensures)
+          same c.inputs_of-inputs.ensures.inputs (c.anchor-anchor.ensures ∙ c.of-trusted.ensures)
           (ap (map cert_in) c.as_slice-chain.ensures.value ∙ are.certificates),
       c.in_ok-reply.ensures.said,
     )

@@ -30,5 +30,5 @@ returns-clause-among g c =
     (g.S.SignatureCheck.accepts c.args.check.now) c.args.certificates.now c.args.trusted.now
     c.in_ok-answer.answer
     (front_is c.args.certificates.now c.leaf-item.result c.in-len1-up.len_at_least c.leaf-item.is)
-    c.requires.few (ap (map anchor_in) c.deref-3.ensures.value ∙ c.in_ok-anchors.ensures)
+    c.requires.few c.requires.policies (ap (map anchor_in) c.deref-3.ensures.value ∙ c.in_ok-anchors.ensures)
     c.in_ok-answer.ensures

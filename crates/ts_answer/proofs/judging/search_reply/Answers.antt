@@ -12,7 +12,7 @@ returns-clause-reply g c = λ tables octets same are.
     let are_anchors = c.anchors.ensures ∙ anchors c.args.snapshot.now tables same in
     let again = c.anchors-2.ensures ∙ anchors c.args.snapshot.now tables same in (
       c.in_ok-answer.answer,
-      c.in_ok-answer.ensures.answer tables c.args.terms.now octets same c.inputs_of-inputs.ensures
+      c.in_ok-answer.ensures.answer tables c.args.terms.now octets same c.inputs_of-inputs.ensures.inputs
           (ap (map trusted_in) c.deref-4.ensures.value ∙ c.in_ok-trusted.ensures
           ∙ ap (map trust_anchor) are_anchors)
           (ap (map cert_in) c.deref-5.ensures.value ∙ are.certificates),

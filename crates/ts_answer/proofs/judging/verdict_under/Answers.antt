@@ -7,6 +7,7 @@ use Rattle.ts_answer.proofs.Lent.{complete, deltas}
 use Rattle.ts_path.specs.Chain.{ChainQuestion}
 use Rattle.ts_path.specs.Verdict.{IsVerdict}
 use Rattle.ts_answer.proofs.Asking.{same_question}
+use Rattle.ts_answer.proofs.Places.{verdict_sayable}
 use Rattle.ts_answer.proofs.judging.verdict_under.Goals as goal
 
 pub returns-clause-verdict : goal.returns-clause-verdict
@@ -21,3 +22,10 @@ returns-clause-verdict g c = λ tables terms stored octets same inputs anchor ch
     (inputs good (record { lists = c.deref.result; deltas = c.deref-2.result })
     (anchor_in c.args.anchor.now)) anchor chain)
     c.in_ok-verdict.ensures
+
+pub returns-clause-sayable : goal.returns-clause-sayable
+returns-clause-sayable g c =
+    verdict_sayable c.args.anchor.now c.args.chain.now c.args.inputs.now
+    (record { lists = c.deref.result; deltas = c.deref-2.result })
+    (g.S.SignatureCheck.accepts c.args.check.now) c.in_ok-verdict.verdict
+    c.requires.some c.requires.few c.requires.policies c.in_ok-verdict.ensures
