@@ -9,3 +9,4 @@ pub mod Inputs
 pub mod Framing
 pub mod Exact
 pub mod Turns
+pub mod Exchanges

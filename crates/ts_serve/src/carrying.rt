@@ -1,7 +1,8 @@
 //! Messages are carried between servers.
 
 ghost use Rattle.std.specs.Prelude.{◌≡◌, ◌↔◌, All, IfOk, IfSome, IsTrue};
-ghost use Rattle.ts_serve.specs.inside.Carrying.{IsDelivered, IsGiven, is_message};
+ghost use Rattle.ts_serve.specs.inside.Carrying.{IsDelivered, IsGiven, are_given, is_message};
+ghost use Rattle.ts_serve.specs.inside.Carrying.{is_reply};
 ghost use Rattle.std.specs.List.{flat_map, list_all, AllByRecursion};
 ghost use Rattle.ts_wire.specs.Frames.{FrameFits, frame_encoding};
 
@@ -46,22 +47,46 @@ fn are_messages(frames: &[Frame]) -> bool
     frames.iter().all(|frame| is_message(frame))
 }
 
-/// Whether frames are messages, at most as many as an outbox holds, and then their count.
-fn is_given(frames: &[Frame]) -> bool
-    ensures { IsTrue result → IsGiven frames.now }
+/// Whether these frames are messages, at most as many as an outbox holds, and the last one is their
+/// count.
+fn are_given(messages: &[Frame], last: &Frame) -> bool
+    ensures { result ≡ are_given messages.now last.now }
 {
-    let Some((Frame::Done { count }, messages)) = frames.split_last() else {
+    let Frame::Done { count } = last else {
         return false;
     };
     messages.len() <= MAX_WAITING && messages.len() == *count as usize && are_messages(messages)
 }
 
-/// Whether these frames are an answer to a message.
-fn is_delivered(frames: &[Frame]) -> bool {
-    matches!(
-        frames,
-        [Frame::Done { count: 0 }] | [Frame::NodeFault { .. }]
-    )
+/// Whether frames are messages, at most as many as an outbox holds, and then their count.
+fn is_given(frames: &[Frame]) -> bool
+    ensures { IsTrue result ↔ IsGiven frames.now }
+{
+    match frames.split_last() {
+        Some((last, messages)) => are_given(messages, last),
+        None => false,
+    }
+}
+
+/// Whether a frame answers a message: it was done and nothing was given, or a node's fault.
+fn is_reply(frame: &Frame) -> bool
+    ensures { result ≡ is_reply frame.now }
+{
+    match frame {
+        Frame::Done { count } => *count == 0,
+        Frame::NodeFault { .. } => true,
+        _ => false,
+    }
+}
+
+/// Whether these frames are an answer to a message, and nothing else.
+fn is_delivered(frames: &[Frame]) -> bool
+    ensures { IsTrue result ↔ IsDelivered frames.now }
+{
+    match frames {
+        [frame] => is_reply(frame),
+        _ => false,
+    }
 }
 
 /// The messages that a peer gives, each in its frame. None where the exchange fails.

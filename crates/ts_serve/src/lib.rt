@@ -41,7 +41,8 @@
 //! - [`ServerPeer::exchange`](Peer::exchange): `served`: the answers are those of `serve` to the
 //!   whole stream.
 //! - [`TcpPeer::exchange`](Peer::exchange), [`carry`]: they end, and each peer can be asked again;
-//!   what they carry and count is shown by tests.
+//!   what they carry and count is shown by tests. Which frames `carry` takes for what a peer gives,
+//!   and which for an answer to a message, is exact (`is_given`, `is_delivered`).
 //!
 //! `serve` requires that the node is sound (`IsSound`), as each node that was opened is, and leaves
 //! it so. An answer that would be longer than a frame may be is written as NodeFault Memory

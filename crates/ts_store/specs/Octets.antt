@@ -14,7 +14,7 @@ abbrev pub are_purposes : Option (List (List ℕ)) → Bool
 are_purposes None = true
 are_purposes (Some oids) = is_listed oids && list_all is_oid oids
 
--- the fields are within their limits (`FieldsFit` of ts_store, as a test)
+-- the fields are within their limits (`CommandFieldsFit`, as a test)
 abbrev pub are_fields : Command → Bool
 are_fields (AddAnchor id certificate) = nat_le (length certificate) 65536
 are_fields (WithdrawAnchor id anchor) = length anchor == 32
@@ -23,7 +23,7 @@ are_fields (DropCrl id crl) = length crl == 32
 are_fields (SetPurposes id anchor purposes) = (length anchor == 32) && are_purposes purposes
 are_fields (Noop id) = true
 
--- the id has 16 octets, and the fields are within their limits
+-- the id has 16 octets, and the fields are within their limits (`CommandFits`, as a test)
 abbrev pub is_command : Command → Bool
 is_command command = (length (id_of command) == 16) && are_fields command
 

@@ -1,11 +1,12 @@
 //! Laws about the encoding of commands, and about the fold of them that the store is. Each is on a
 //! function that does nothing.
 
-ghost use Rattle.std.specs.Prelude.{◌≡◌, ◌⊎◌, List, ℕ, suc, ◌++◌, Some, None};
+ghost use Rattle.std.specs.Prelude.{◌≡◌, ◌⊎◌, ◌↔◌, IsTrue, List, ℕ, suc, ◌++◌, Some, None};
 ghost use Rattle.ts_store.specs.Store.{StoreState, step, after};
 ghost use Rattle.ts_store.specs.declared.outcome.Outcome.TheVariants.{Applied};
 ghost use Rattle.ts_store.specs.Commands.{id_of, command_encoding, CommandFits};
 ghost use Rattle.ts_store.specs.Ids.{first_of};
+ghost use Rattle.ts_store.specs.Octets.{is_command};
 ghost use Rattle.ts_store.specs.declared.command.Command.{Command};
 ghost use Rattle.ts_store.specs.declared.ids.FirstCommand.{FirstCommand};
 
@@ -16,6 +17,12 @@ pub fn one_encoding()
     ensures octets { (octets others : List ℕ) (command : Command) → octets ≡ command_encoding
         command
         → others ≡ command_encoding command → octets ≡ others }
+{}
+
+/// The test by which a command has octets in a record is true of exactly those commands whose id
+/// has 16 octets and whose fields are within their limits.
+pub fn which_fit()
+    ensures { (command : Command) → IsTrue (is_command command) ↔ CommandFits command }
 {}
 
 /// A command that is not applied leaves the tables as they are; each command takes one position; a

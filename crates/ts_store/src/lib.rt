@@ -30,6 +30,8 @@
 //!   protocol, and is kept in a record by its one encoding (`specs/Octets`).
 //! - [`laws::one_encoding`]: no two commands have one encoding, and no two lists of octets are one
 //!   command's.
+//! - [`laws::which_fit`]: the test by which a command has octets in a record says exactly which
+//!   commands have an encoding.
 //! - [`Anchors::add`], [`Anchors::withdraw`], [`Anchors::set_purposes`]: the table after the
 //!   command, or its refusal, by the definition (`specs/Anchors`); at an `Err` nothing changes.
 //! - [`place_of_anchor`], [`place_of_crl`], [`place_of_slot`], [`digest`]: where an anchor or CRL
