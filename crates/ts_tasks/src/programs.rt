@@ -200,28 +200,30 @@ fn serve_node<
     }
 }
 
-/// The group of a node, and who may ask it.
-#[derive(Drop)]
-struct Setting<'m> {
-    group: Group,
-    access: Access<'m>,
-}
-
-/// The group and the access that the words name.
-fn setting_of<'m, R: Files + Eprint>(
+/// Serves the node on two disks, in this group, to those whom the words let in.
+fn serve_group<
+    D: Disk + Drop,
+    R: Net<Listener = TcpListener, Stream = TcpStream> + Files + Clock + RandomSource + Eprint,
+>(
     rt: &R,
     alloc: Global,
+    disks: (D, D),
+    check: ServedCheck,
     words: &ServeWords,
-    meter: &'m Meter,
-) -> Result<Setting<'m>, TaskFault> {
-    let group = group_of(rt, alloc, words)?;
-    match access_of(rt, alloc, words, meter) {
-        Ok(access) => Ok(Setting { group, access }),
+    group: &Group,
+    meter: &Meter,
+) -> Result<(), TaskFault> {
+    let mut access = match access_of(rt, alloc, words, meter) {
+        Ok(access) => access,
         Err(fault) => {
-            drop(group);
-            Err(fault)
+            drop((disks, check));
+            return Err(fault);
         }
-    }
+    };
+    say_start(rt, words, group, &access);
+    let served = serve_node(rt, alloc, disks, check, words, group, &mut access);
+    drop(access);
+    served
 }
 
 /// Serves the node on two disks as the words say.
@@ -236,17 +238,15 @@ fn serve_disks<
     words: &ServeWords,
     meter: &Meter,
 ) -> Result<(), TaskFault> {
-    let mut setting = match setting_of(rt, alloc, words, meter) {
-        Ok(setting) => setting,
+    let group = match group_of(rt, alloc, words) {
+        Ok(group) => group,
         Err(fault) => {
             drop((disks, check));
             return Err(fault);
         }
     };
-    say_start(rt, words, &setting.group, &setting.access);
-    let (group, access) = (&setting.group, &mut setting.access);
-    let served = serve_node(rt, alloc, disks, check, words, group, access);
-    drop(setting);
+    let served = serve_group(rt, alloc, disks, check, words, &group, meter);
+    drop(group);
     served
 }
 
