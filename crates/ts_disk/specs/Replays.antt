@@ -114,6 +114,18 @@ after_last : (s : State) (calls : List DiskCall) (call : DiskCall)
 after_last s [] call = refl
 after_last s (c ∷ calls) call = after_last (after s c) calls call
 
+moment_after_last : (s : State) (calls : List DiskCall) (call : DiskCall)
+    → (after_all s (calls ++ call ∷ [])).moment ≡ (after (after_all s calls) call).moment
+moment_after_last s [] call = refl
+moment_after_last s (c ∷ calls) call = moment_after_last (after s c) calls call
+
+-- one call more, and the moment after it: a write and a sync take the disk to the next one
+pub moment_after : (first : List ℕ) (calls later : List DiskCall) (call : DiskCall)
+    → later ≡ calls ++ call ∷ []
+    → (history first later).moment ≡ (after (history first calls) call).moment
+moment_after first calls later call is =
+    ap (λ cs. (history first cs).moment) is ∙ moment_after_last (start first) calls call
+
 -- one call more, whose record goes on
 pub read_same : (first : List ℕ) (calls : List DiskCall)
     → (history first (calls ++ Read ∷ [])).read ≡ (history first calls).read

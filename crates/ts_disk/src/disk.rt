@@ -1,6 +1,6 @@
 //! A disk: what a read gives, and what a crash may leave.
 
-ghost use Rattle.std.specs.Prelude.{◌≡◌, ◌≤◌, length, IfOk, OnOk, IfErr};
+ghost use Rattle.std.specs.Prelude.{◌≡◌, ◌≤◌, ◌+◌, length, IfOk, OnOk, IfErr};
 ghost use Rattle.ts_disk.specs.declared.fault.DiskFault.TheVariants.{Failed};
 ghost use Rattle.ts_disk.specs.Disk.{State, IsDisk, Call, Same, Torn, overwrite, IsDurable};
 ghost use Rattle.ts_disk.specs.Disk.{HasCause};
@@ -21,6 +21,7 @@ pub trait Disk {
         ensures octets { IfOk result (λ octets. octets.items ≡ (state self.old).read) }
         ensures same { (state self.new).read ≡ (state self.old).read }
         ensures call { Call Same (state self.old) (state self.new) }
+        ensures counted { (state self.new).moment ≡ (state self.old).moment }
         ensures cause { HasCause (state self.old) (state self.new) result };
 
     /// Writes octets at an offset, over what is there and past the end. Until a sync, a crash may
@@ -30,6 +31,7 @@ pub trait Disk {
         ensures written { OnOk result ((state self.new).read
             ≡ overwrite (state self.old).read at octets.now) }
         ensures call { Call (Torn at (length octets.now)) (state self.old) (state self.new) }
+        ensures counted { OnOk result ((state self.new).moment ≡ (state self.old).moment + 1) }
         ensures fault { IfErr result (λ fault. fault ≡ Failed) }
         ensures cause { HasCause (state self.old) (state self.new) result };
 
@@ -38,6 +40,7 @@ pub trait Disk {
         ensures durable { OnOk result (IsDurable (state self.new)) }
         ensures same { (state self.new).read ≡ (state self.old).read }
         ensures call { Call Same (state self.old) (state self.new) }
+        ensures counted { OnOk result ((state self.new).moment ≡ (state self.old).moment + 1) }
         ensures fault { IfErr result (λ fault. fault ≡ Failed) }
         ensures cause { HasCause (state self.old) (state self.new) result };
 

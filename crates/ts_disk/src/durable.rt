@@ -1,6 +1,6 @@
 //! A write with its sync.
 
-ghost use Rattle.std.specs.Prelude.{◌≡◌, ◌≤◌, length, OnOk, IfErr};
+ghost use Rattle.std.specs.Prelude.{◌≡◌, ◌≤◌, ◌+◌, length, OnOk, IfErr};
 ghost use Rattle.ts_disk.specs.declared.fault.DiskFault.TheVariants.{Failed};
 ghost use Rattle.ts_disk.specs.Disk.{Torn, overwrite, IsDurable, HasCause, EveryImage};
 
@@ -16,6 +16,7 @@ pub fn put<D: Disk>(disk: &mut D, at: usize, octets: &[u8]) -> Result<(), DiskFa
         ≡ overwrite (D.state disk.old).read at octets.now) }
     ensures moments { EveryImage (Torn at (length octets.now) (D.state disk.old).read)
         (D.state disk.old) (D.state disk.new) }
+    ensures counted { OnOk result ((D.state disk.new).moment ≡ (D.state disk.old).moment + 2) }
     ensures fault { IfErr result (λ fault. fault ≡ Failed) }
     ensures cause { HasCause (D.state disk.old) (D.state disk.new) result }
 {

@@ -1,6 +1,6 @@
 //! A disk in memory, which keeps a record of its calls, and fails when a test wants it to.
 
-ghost use Rattle.std.specs.Prelude.{◌≡◌, IfOk, ◌⊎◌, ◌<◌, ◌≤◌, ◌^◌, ◌-◌, List, ℕ, [], ◌∷◌, ◌++◌};
+ghost use Rattle.std.specs.Prelude.{◌≡◌, IfOk, ◌⊎◌, ◌<◌, ◌≤◌, ◌^◌, ◌+◌, ◌-◌, List, ℕ, [], ◌∷◌, ◌++◌};
 ghost use Rattle.std.specs.Prelude.{length, true, Some, None, Err, OnOk, OnErr, IfErr, IsErr};
 ghost use Rattle.ts_disk.specs.declared.call.DiskCall.TheVariants.{Read, Write, Sync};
 ghost use Rattle.ts_disk.specs.declared.fault.DiskFault.TheVariants.{Failed};
@@ -195,6 +195,7 @@ impl Disk for MemDisk {
         ensures octets { IfOk result (λ octets. octets.items ≡ (state_of self.old).read) }
         ensures same { (state_of self.new).read ≡ (state_of self.old).read }
         ensures call { Call Same (state_of self.old) (state_of self.new) }
+        ensures counted { (state_of self.new).moment ≡ (state_of self.old).moment }
         ensures cause { HasCause (state_of self.old) (state_of self.new) result }
         ensures refused { is_refused (plan_of self.old) ≡ true → IsErr result }
         ensures plan { (plan_of self.new ≡ one_call_more (plan_of self.old))
@@ -216,6 +217,8 @@ impl Disk for MemDisk {
             ≡ overwrite (state_of self.old).read at octets.now) }
         ensures call { Call (TornWrite at (length octets.now)) (state_of self.old)
             (state_of self.new) }
+        ensures counted { OnOk result ((state_of self.new).moment
+            ≡ (state_of self.old).moment + 1) }
         ensures fault { IfErr result (λ fault. fault ≡ Failed) }
         ensures cause { HasCause (state_of self.old) (state_of self.new) result }
         ensures refused { is_refused (plan_of self.old) ≡ true → result ≡ Err Failed }
@@ -234,6 +237,8 @@ impl Disk for MemDisk {
         ensures durable { OnOk result (IsDurable (state_of self.new)) }
         ensures same { (state_of self.new).read ≡ (state_of self.old).read }
         ensures call { Call Same (state_of self.old) (state_of self.new) }
+        ensures counted { OnOk result ((state_of self.new).moment
+            ≡ (state_of self.old).moment + 1) }
         ensures fault { IfErr result (λ fault. fault ≡ Failed) }
         ensures cause { HasCause (state_of self.old) (state_of self.new) result }
         ensures refused { is_refused (plan_of self.old) ≡ true → result ≡ Err Failed }

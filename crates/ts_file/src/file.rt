@@ -1,6 +1,7 @@
 //! A file as a disk.
 
-ghost use Rattle.std.specs.Prelude.{◌≡◌, ◌<◌, ◌≤◌, ◌-◌, ◌^◌, ◌⊎◌, length, Err, IfErr, IfOk, OnOk};
+ghost use Rattle.std.specs.Prelude.{◌≡◌, ◌<◌, ◌≤◌, ◌+◌, ◌-◌, ◌^◌, ◌⊎◌, length, Err, IfErr};
+ghost use Rattle.std.specs.Prelude.{IfOk, OnOk};
 ghost use Rattle.std.specs.Option.{ForSome};
 ghost use Rattle.ts_disk.specs.Disk.{Call, Same, Torn, overwrite, HasCause};
 ghost use Rattle.ts_disk.specs.declared.fault.DiskFault.TheVariants.{Failed};
@@ -81,6 +82,7 @@ impl<F: Read + Write + Seek + OpenFile + Drop> Disk for FileDisk<F> {
         ensures octets { IfOk result (λ octets. octets.items ≡ (state_of self.old).read) }
         ensures same { (state_of self.new).read ≡ (state_of self.old).read }
         ensures call { Call Same (state_of self.old) (state_of self.new) }
+        ensures counted { (state_of self.new).moment ≡ (state_of self.old).moment }
         ensures cause { HasCause (state_of self.old) (state_of self.new) result }
         ensures stays { 0 < (state_of self.old).failures → result ≡ Err Failed }
     {
@@ -99,6 +101,8 @@ impl<F: Read + Write + Seek + OpenFile + Drop> Disk for FileDisk<F> {
         ensures written { OnOk result ((state_of self.new).read
             ≡ overwrite (state_of self.old).read at octets.now) }
         ensures call { Call (Torn at (length octets.now)) (state_of self.old) (state_of self.new) }
+        ensures counted { OnOk result ((state_of self.new).moment
+            ≡ (state_of self.old).moment + 1) }
         ensures fault { IfErr result (λ fault. fault ≡ Failed) }
         ensures cause { HasCause (state_of self.old) (state_of self.new) result }
         ensures stays { 0 < (state_of self.old).failures → result ≡ Err Failed }
@@ -118,6 +122,8 @@ impl<F: Read + Write + Seek + OpenFile + Drop> Disk for FileDisk<F> {
         ensures durable { OnOk result (IsDurable (state_of self.new)) }
         ensures same { (state_of self.new).read ≡ (state_of self.old).read }
         ensures call { Call Same (state_of self.old) (state_of self.new) }
+        ensures counted { OnOk result ((state_of self.new).moment
+            ≡ (state_of self.old).moment + 1) }
         ensures fault { IfErr result (λ fault. fault ≡ Failed) }
         ensures cause { HasCause (state_of self.old) (state_of self.new) result }
         ensures stays { 0 < (state_of self.old).failures → result ≡ Err Failed }

@@ -56,6 +56,10 @@ disk_a j = cond j.swapped j.spare j.current
 abbrev pub disk_b : {D : Type 0} → Journal D → D
 disk_b j = cond j.swapped j.current j.spare
 
+-- how many writes and syncs were made on the two disks: each takes its disk to the next moment
+abbrev pub calls_on_disks : {D : Type 0} → (D → State) → Journal D → ℕ
+calls_on_disks state j = (state j.current).moment + (state j.spare).moment
+
 -- At every moment since the journal was old, every pair of images is P.
 abbrev pub EveryMoment : {D : Type 0} → (D → State) → (List ℕ → List ℕ → Type 0) → Journal D
     → Journal D → Type 0

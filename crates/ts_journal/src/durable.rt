@@ -1,6 +1,6 @@
 //! Writes with their syncs.
 
-ghost use Rattle.std.specs.Prelude.{◌≡◌, ◌≤◌, ◌⊎◌, length, take, OnOk, IfErr};
+ghost use Rattle.std.specs.Prelude.{◌≡◌, ◌≤◌, ◌⊎◌, ◌+◌, length, take, OnOk, IfErr};
 ghost use Rattle.ts_disk.specs.declared.fault.DiskFault.TheVariants.{Failed};
 ghost use Rattle.ts_disk.specs.Disk.{IsDurable, HasCause, EveryImage};
 ghost use Rattle.ts_journal.specs.Gate.{HasClosedGate, HasOpenGate};
@@ -19,6 +19,7 @@ pub(crate) fn extend<D: Disk>(disk: &mut D, end: usize, text: &[u8]) -> Result<(
         (λ image. HasClosedGate (take end (D.state disk.old).read) image
         ⊎ HasOpenGate (take end (D.state disk.old).read) text.now image)
         (D.state disk.old) (D.state disk.new) }
+    ensures counted { OnOk result ((D.state disk.new).moment ≡ (D.state disk.old).moment + 4) }
     ensures fault { IfErr result (λ fault. fault ≡ Failed) }
     ensures cause { HasCause (D.state disk.old) (D.state disk.new) result }
 {

@@ -7,7 +7,7 @@ ghost use Rattle.ts_journal.specs.Choice.{header_of_owner};
 ghost use Rattle.ts_journal.specs.Images.{IsBody, at_generation, entry, OpensFrom, BeforeOrAfter};
 ghost use Rattle.ts_journal.specs.Images.{OneOrOther};
 ghost use Rattle.ts_journal.specs.Settled.{Holds, IsSettled, header_of, member_in, EveryMoment};
-ghost use Rattle.ts_journal.specs.Settled.{OneFailed};
+ghost use Rattle.ts_journal.specs.Settled.{OneFailed, calls_on_disks};
 ghost use Rattle.ts_journal.specs.declared.journal.Stage.TheVariants.{Live, Closed, Begun, Copying};
 
 use crate::choice::Owner;
@@ -74,6 +74,8 @@ impl<D: Disk> Journal<D> {
         ensures swapped { self.new.swapped ≡ self.old.swapped }
         ensures generation { self.new.generation ≡ self.old.generation }
         ensures stage { self.new.stage ≡ self.old.stage }
+        ensures counted { OnOk result (calls_on_disks D.state self.new
+            ≡ calls_on_disks D.state self.old + 4) }
         ensures failed { IfErr result (λ fault. (fault ≡ Failed)
             × OneFailed D.state self.old self.new) }
     {

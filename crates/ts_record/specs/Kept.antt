@@ -1,6 +1,6 @@
 -- What a record keeps: its disks, in the order in which they were given, and its facts; whose it
 -- is, and of which group; which disk is in use, and its generation; and how far a rewrite is.
-use Rattle.std.specs.Prelude.{ℕ, List, Bool}
+use Rattle.std.specs.Prelude.{◌+◌, ℕ, List, Bool}
 use Rattle.ts_disk.specs.Disk.{State}
 use Rattle.ts_journal.specs.Images.{Member}
 use Rattle.ts_journal.specs.Settled.{Holds, disk_a, disk_b}
@@ -24,6 +24,10 @@ pub record KeptRecord (D C : Type 0) : Type 0 where
 -- the node whose record it is
 abbrev pub member : {D C : Type 0} → KeptRecord D C → Member
 member kept = record { node = kept.node; nodes = kept.nodes }
+
+-- how many writes and syncs were made on its disks: each takes its disk to the next moment
+abbrev pub calls_made : {D C : Type 0} → (D → State) → KeptRecord D C → ℕ
+calls_made state kept = (state kept.a).moment + (state kept.b).moment
 
 -- all but its disks
 abbrev pub course : {D C : Type 0} → KeptRecord D C → Course C

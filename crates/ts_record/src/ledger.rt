@@ -2,7 +2,7 @@
 
 ghost use Rattle.std.specs.Prelude.{◌≡◌, ◌≢◌, ◌≤◌, ◌<◌, ◌⊎◌, ◌++◌, ◌+◌, ◌^◌, ◌∷◌, [], ℕ, List};
 ghost use Rattle.std.specs.Prelude.{true, false, length, cond, IfOk, OnOk, OnErr, IfErr, IsErrOf};
-ghost use Rattle.ts_journal.specs.Settled.{EveryMoment, member_in, OneFailed};
+ghost use Rattle.ts_journal.specs.Settled.{EveryMoment, member_in, OneFailed, calls_on_disks};
 ghost use Rattle.ts_journal.specs.declared.journal.Stage.TheVariants.{Live, Closed, Begun, Copying};
 ghost use Rattle.ts_record.specs.declared.fault.RecordFault.TheVariants.{Memory, DiskFailed};
 ghost use Rattle.ts_record.specs.declared.progress.Progress.TheVariants.{Working, Switched};
@@ -180,6 +180,8 @@ pub(crate) fn append<D: Disk, C: Codec>(
     ensures refused { OnErr result (course_of c.new ≡ course_of c.old) }
     ensures owner { member_in c.new.journal ≡ member_in c.old.journal }
     ensures group { c.new.journal.group ≡ c.old.journal.group }
+    ensures counted { OnOk result (calls_on_disks D.state c.new.journal
+        ≡ calls_on_disks D.state c.old.journal + 4) }
     ensures moments { EveryMoment D.state
         (ToBeforeOrAfter C.octets (member_in c.old.journal) c.old.journal.swapped
         c.old.facts.items facts.now) c.old.journal c.new.journal }

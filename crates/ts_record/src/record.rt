@@ -2,7 +2,7 @@
 
 ghost use Rattle.std.specs.Prelude.{◌≡◌, ◌≤◌, ◌⊎◌, ◌++◌, ◌∷◌, [], ◌^◌, ◌+◌, ℕ, List, false, true};
 ghost use Rattle.std.specs.Prelude.{length, IfOk, OnOk, OnErr, IfErr, MatchResult, IsErrOf, drop};
-ghost use Rattle.std.specs.Prelude.{cond};
+ghost use Rattle.std.specs.Prelude.{cond, ◌<◌, Ok};
 ghost use Rattle.ts_disk.specs.Disk.{IsDurable, DeviceFailed};
 ghost use Rattle.ts_journal.specs.Images.{head, Member, AnyPair, EveryPair};
 ghost use Rattle.ts_record.specs.declared.fault.RecordFault.TheVariants.{Memory, DiskFailed};
@@ -16,7 +16,7 @@ ghost use Rattle.ts_record.specs.Blocks.{version_2, IsRead};
 ghost use Rattle.ts_record.specs.Opening.{IsFault, NothingNew};
 ghost use Rattle.ts_record.specs.Record.{ToBeforeOrAfter, OpensToFrom, OpensToForce, EitherFailed};
 ghost use Rattle.ts_record.specs.Rewrite.{idle, with_more, IsLast, Steps};
-ghost use Rattle.ts_record.specs.Kept.{course, member};
+ghost use Rattle.ts_record.specs.Kept.{calls_made, course, member};
 ghost use Rattle.ts_synod.specs.Force.{SameForce};
 
 use crate::blocks::Contents;
@@ -260,6 +260,12 @@ impl<D: Disk, C: Codec> Record<D, C> {
 
         // At a fault the facts stay, and so do the disk in use, its generation and the rewrite.
         ensures refused { OnErr result (course self.new ≡ course self.old) }
+
+        // Of no facts it makes no call of a disk; of some it makes four that write or sync.
+        ensures nothing { self.old.broken ≡ false → facts.now ≡ []
+            → (result ≡ Ok tt) × (self.new ≡ self.old) }
+        ensures calls { 0 < length facts.now → OnOk result (calls_made D.state self.new
+            ≡ calls_made D.state self.old + 4) }
 
         // At every moment each pair of images opens to the facts before, or to those and all of the
         // new ones, and from the disk in use.

@@ -1,6 +1,7 @@
 use Rattle.std.proofs.Common.{ap, sym, ◌∙◌}
 use Rattle.ts_disk.specs.Past.{history}
-use Rattle.ts_disk.specs.Replays.{sync_same, syncs, is_synced}
+use Rattle.ts_disk.specs.declared.call.DiskCall.TheVariants.{Sync}
+use Rattle.ts_disk.specs.Replays.{moment_after, sync_same, syncs, is_synced}
 use Rattle.ts_disk.proofs.memory.MemDiskDisk.sync.Goals as goal
 
 pub invariant_of-self-in-Ok : goal.invariant_of-self-in-Ok
@@ -18,3 +19,8 @@ pub returns-in-Ok-clause-call : goal.returns-in-Ok-clause-call
 returns-in-Ok-clause-call c =
     let m = c.args.self.now in
     syncs m.first.items m.calls.items c.keep.new.calls.items m.octets.items m.octets.items m.failures m.failures c.in-Ok.ensures.kept
+
+pub returns-in-Ok-clause-counted : goal.returns-in-Ok-clause-counted
+returns-in-Ok-clause-counted c =
+    let m = c.args.self.now in
+    moment_after m.first.items m.calls.items c.keep.new.calls.items Sync c.in-Ok.ensures.kept

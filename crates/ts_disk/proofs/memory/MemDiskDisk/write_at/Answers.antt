@@ -1,7 +1,8 @@
 use Rattle.std.proofs.Common.{◌≤◌, length, ap, sym, ◌∙◌, arith}
 use Rattle.ts_disk.specs.Disk.{overwrite}
 use Rattle.ts_disk.specs.Past.{history}
-use Rattle.ts_disk.specs.Replays.{write_same, writes, torn_written}
+use Rattle.ts_disk.specs.declared.call.DiskCall.TheVariants.{Write}
+use Rattle.ts_disk.specs.Replays.{moment_after, write_same, writes, torn_written}
 use Rattle.ts_disk.proofs.memory.MemDiskDisk.write_at.Goals as goal
 
 pub invariant_of-self-in-Ok : goal.invariant_of-self-in-Ok
@@ -22,3 +23,9 @@ returns-in-Ok-clause-call c =
     let m = c.args.self.now in
     let kept = c.in-Ok.ensures.kept in
     writes m.first.items m.calls.items c.write.new.calls.items m.octets.items c.write.new.old.items m.failures m.failures c.args.at (length c.args.octets.now) kept.0 (ap length (sym kept.1)) kept.2
+
+pub returns-in-Ok-clause-counted : goal.returns-in-Ok-clause-counted
+returns-in-Ok-clause-counted c =
+    let m = c.args.self.now in
+    let kept = c.in-Ok.ensures.kept in
+    moment_after m.first.items m.calls.items c.write.new.calls.items (Write c.args.at kept.0) kept.2
