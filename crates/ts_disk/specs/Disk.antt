@@ -6,8 +6,9 @@ use Rattle.std.specs.Prelude.{drop, Result, IfErr}
 use Rattle.ts_disk.specs.declared.fault.DiskFault.{DiskFault}
 use Rattle.ts_disk.specs.declared.fault.DiskFault.TheVariants.{Failed}
 
--- A disk: what a read gives now, the images that a crash now may leave, the moment now, the images
--- that a crash at some moment since a moment t may have left, and how often the device has failed.
+-- A disk: what a read gives now, the images that a crash now may leave, the moment now (each write
+-- and each sync leads to the next one), the images that a crash at some moment since a moment t may
+-- have left, and how often the device has failed.
 pub record State : Type 1 where
   pub read : List ℕ
   pub may_leave : List ℕ → Type 0

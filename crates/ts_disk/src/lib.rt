@@ -8,9 +8,10 @@
 //! ```
 //!
 //! - `Disk::read`, `write_at`, `sync`: `octets`, `overwrite`, `durable`; `call`, which images a
-//!   crash may leave afterwards; `cause`, that a failure is counted.
-//! - `put`: a write and its sync: `overwrite`, `durable`, and `moments`, what each image at each
-//!   moment has kept.
+//!   crash may leave afterwards; `counted`, that a write and a sync take the disk to the next
+//!   moment, and a read doesn't; `cause`, that a failure is counted.
+//! - `put`: a write and its sync: `overwrite`, `durable`, `counted`, and `moments`, what each image
+//!   at each moment has kept.
 //! - `MemDisk::new`, `octets`, `calls`, `set_fuse`, `fail_at`: a disk in memory that keeps its
 //!   calls, and fails when a test wants it to: `plan`, which calls fail; `refused`, that they do.
 //! - `MemDisk::crash`: `left`, one of the images that a crash now may leave; `image`, which one;

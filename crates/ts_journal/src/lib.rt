@@ -24,7 +24,7 @@
 //!   at every moment.
 //! - `look_at`, `choose`: `chosen`, `none`: which disk is in use, and that none is.
 //! - `Journal::append`: `holds`, and `moments`: each pair of images opens to the entries before, or
-//!   to those and the new one, from the disk in use.
+//!   to those and the new one, from the disk in use; `counted`: by four writes and syncs.
 //! - `Journal::shut`, `begin`, `copy`: `holds`, and `moments`: each pair opens to the entries, from
 //!   the disk in use.
 //! - `Journal::switch`: `holds`, and `moments`: each pair opens to the entries before, or to the

@@ -17,8 +17,8 @@
 //!   fault comes from; `same`, `owner`.
 //! - `Record::append`: `moments`: at every moment each pair of images opens to the facts before, or
 //!   to those with all of the new ones; `kept`, `opens`, `owner`, `swapped`, `generation`;
-//!   `refused`: at a fault the facts stay, and so does the rewrite; `memory`, `failed`, `broken`,
-//!   `stays`.
+//!   `refused`: at a fault the facts stay, and so does the rewrite; `nothing`, `calls`: how often
+//!   it calls a disk; `memory`, `failed`, `broken`, `stays`.
 //! - `Record::compact`: one step of a rewrite on the other disk. `moments`: at every moment each
 //!   pair of images opens to equivalent facts; `from`: before the last step to the facts,
 //!   from the disk in use; `steps`, `force`, `opens`, `owner`; `refused`, `memory`, `failed`,
