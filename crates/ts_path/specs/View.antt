@@ -59,8 +59,3 @@ question_in anchor chain inputs crls good =
 abbrev pub at : ValidationInputs → PathState → List CertPolicies → Certificate → Bool → Site
 at asked state above c last = record
     { asked = asked; state = state; policies_above = above; certificate = c; last = last }
-
-abbrev pub site_in : Anchor → Inputs → Crls → (List ℕ → Key → List ℕ → List ℕ → Bool) → PathState
-    → List CertPolicies → Certificate → Bool → Site
-site_in anchor inputs crls good state above c last =
-    at (asked_in anchor inputs crls good) state above c last

@@ -44,10 +44,11 @@
 #![tactic(auto)]
 
 mod anchor;
+mod conditions;
+mod context;
 mod counters;
 mod extensions;
 mod inputs;
-mod judging;
 pub mod laws;
 mod path;
 mod self_issued;

@@ -5,6 +5,7 @@ ghost use Rattle.ts_path.specs.View.{question_in};
 ghost use Rattle.ts_path.specs.Verdict.{IsVerdict};
 
 use crate::anchor::Anchor;
+use crate::context::Context;
 use crate::inputs::Inputs;
 use crate::verdict::Verdict;
 use crate::walk::{End, Step, Walk};
@@ -36,17 +37,23 @@ pub fn validate<'a, S: SignatureCheck>(
     ensures { IfOk result (IsVerdict
         (question_in anchor.now chain.now inputs.now crls.now (S.accepts check.now))) }
 {
-    let mut walk = Walk::start(alloc, anchor, inputs, chain.len() as u8)?;
+    let context = Context {
+        anchor,
+        inputs,
+        crls,
+        check,
+    };
+    let mut walk = Walk::start(alloc, &context, chain.len() as u8)?;
     let mut rest = chain;
     while let [cert, below @ ..] = rest {
         let position = walk.position();
         if below.is_empty() {
-            return match walk.end(alloc, anchor, inputs, crls, check, cert)? {
+            return match walk.end(alloc, &context, cert)? {
                 End::Accepted(policies) => Ok(Verdict::Valid(policies)),
                 End::Refused(reason) => Ok(Verdict::Invalid { position, reason }),
             };
         }
-        match walk.pass(alloc, anchor, inputs, crls, check, cert)? {
+        match walk.pass(alloc, &context, cert)? {
             Step::Next(next) => walk = next,
             Step::Stop(reason) => return Ok(Verdict::Invalid { position, reason }),
         }

@@ -1,16 +1,13 @@
 //! The state variables of path validation.
 
-ghost use Rattle.std.specs.Prelude.{◌≡◌, ◌<◌, ◌+◌, ℕ, Bool, List, IfOk, OnOk, []};
+ghost use Rattle.std.specs.Prelude.{◌≡◌, ◌<◌, ◌+◌, IfOk, OnOk, []};
 ghost use Rattle.ts_cert.specs.CertView.{cert_in};
-ghost use Rattle.ts_sig.specs.Key.{Key};
-ghost use Rattle.ts_revoke.specs.declared.crls.Crls.{Crls as CrlsOf};
+ghost use Rattle.ts_path.specs.inside.Context.{asked_by};
 ghost use Rattle.ts_path.specs.inside.Judging.{state_after};
 ghost use Rattle.ts_path.specs.State.{state_at};
-ghost use Rattle.ts_path.specs.View.{asked_in};
 
-use crate::anchor::Anchor;
+use crate::context::Context;
 use crate::counters::Counters;
-use crate::inputs::Inputs;
 use crate::working_key::{key_after, key_of_anchor};
 use std::alloc::{AllocError, Global};
 use std::marker::Model;
@@ -18,7 +15,7 @@ use ts_cert::Cert;
 use ts_constraint::Bounds;
 use ts_ext::KeyUsage;
 use ts_name::Name;
-use ts_sig::WorkingKey;
+use ts_sig::{SignatureCheck, WorkingKey};
 
 /// The state variables at a certificate (RFC 5280 6.1.2), without the valid policy tree.
 #[derive(Drop)]
@@ -56,15 +53,14 @@ impl<'a> Model for State<'a> {
 
 impl<'a> State<'a> {
     /// The variables at the first certificate of a chain of this length.
-    pub(crate) fn start(
+    pub(crate) fn start<S: SignatureCheck>(
         alloc: Global,
-        anchor: &Anchor<'a>,
-        inputs: &Inputs<'a>,
+        context: &Context<'_, '_, 'a, S>,
         length: u8,
     ) -> Result<Self, AllocError>
-        ensures { IfOk result (λ s. (crls : CrlsOf) (good : List ℕ → Key → List ℕ → List ℕ → Bool)
-            → s ≡ state_at (asked_in anchor.now inputs.now crls good) length []) }
+        ensures { IfOk result (λ s. s ≡ state_at (asked_by S.accepts context.now) length []) }
     {
+        let (anchor, inputs) = (context.anchor, context.inputs);
         Ok(State {
             passed: 0,
             name: anchor.name,

@@ -1,24 +1,21 @@
 //! A walk along a chain, from the anchor's side.
 
-ghost use Rattle.std.specs.Prelude.{◌≡◌, ℕ, ◌+◌, Bool, List, [], ◌<◌, true, false, IfOk};
+ghost use Rattle.std.specs.Prelude.{◌≡◌, ◌+◌, [], ◌<◌, true, false, IfOk};
 ghost use Rattle.ts_cert.specs.CertView.{cert_in};
-ghost use Rattle.ts_sig.specs.Key.{Key};
-ghost use Rattle.ts_revoke.specs.declared.crls.Crls.{Crls as CrlsOf};
 ghost use Rattle.ts_path.specs.State.{state_at};
-ghost use Rattle.ts_path.specs.View.{asked_in, site_in};
+ghost use Rattle.ts_path.specs.View.{at};
+ghost use Rattle.ts_path.specs.inside.Context.{asked_by};
 ghost use Rattle.ts_path.specs.inside.Judging.{IsJudged, IsStep, IsEnd};
 
-use crate::anchor::Anchor;
+use crate::conditions::{accepts_none, first_of_extensions};
+use crate::context::Context;
 use crate::extensions::is_meant_for;
-use crate::inputs::Inputs;
-use crate::judging::{accepts_none, first_of_extensions};
 use crate::state::State;
 use std::alloc::{AllocError, Global};
 use ts_cert::Cert;
 use ts_der::OidRef;
 use ts_policy::Policies;
 use ts_reason::Reason;
-use ts_revoke::Crls;
 use ts_sig::SignatureCheck;
 
 /// The state variables at a certificate, the valid policy tree among them.
@@ -30,16 +27,16 @@ pub(crate) struct Walk<'a> {
 
 /// What the conditions up to that on the valid policy tree lead to.
 #[derive(Drop)]
-pub(crate) enum Judged<'a> {
+pub(crate) enum Judgement<'a> {
     /// The certificate meets them.
-    Met(Met<'a>),
+    Met(AfterPolicies<'a>),
     /// The first that it does not meet.
     Failed(Reason<OidRef<'a>>),
 }
 
 /// The state variables once the policies of a certificate are taken.
 #[derive(Drop)]
-pub(crate) struct Met<'a> {
+pub(crate) struct AfterPolicies<'a> {
     pub(crate) state: State<'a>,
     pub(crate) policies: Policies<'a>,
     /// Whether a mapping of the certificate names anyPolicy.
@@ -66,20 +63,17 @@ pub(crate) enum End<'a> {
 
 impl<'a> Walk<'a> {
     /// The walk before the first certificate of a chain of this length.
-    pub(crate) fn start(
+    pub(crate) fn start<S: SignatureCheck>(
         alloc: Global,
-        anchor: &Anchor<'a>,
-        inputs: &Inputs<'a>,
+        context: &Context<'_, '_, 'a, S>,
         length: u8,
     ) -> Result<Walk<'a>, AllocError>
-        ensures state { IfOk result (λ w. (crls : CrlsOf)
-            (good : List ℕ → Key → List ℕ → List ℕ → Bool)
-            → w.state ≡ state_at (asked_in anchor.now inputs.now crls good) length []) }
+        ensures state { IfOk result (λ w. w.state ≡ state_at (asked_by S.accepts context.now) length []) }
         ensures policies { IfOk result
             (λ w. w.policies ≡ record { certificates = []; mapped = true }) }
     {
         Ok(Walk {
-            state: State::start(alloc, anchor, inputs, length)?,
+            state: State::start(alloc, context, length)?,
             policies: Policies::start(alloc)?,
         })
     }
@@ -96,21 +90,17 @@ impl<'a> Walk<'a> {
     pub(crate) fn pass<S: SignatureCheck>(
         self,
         alloc: Global,
-        anchor: &Anchor<'a>,
-        inputs: &Inputs<'a>,
-        crls: &Crls<'_>,
-        check: &S,
+        context: &Context<'_, '_, 'a, S>,
         cert: &Cert<'a>,
     ) -> Result<Step<'a>, AllocError>
         requires mapped { self.policies.mapped ≡ true }
         requires room { self.state.passed < 255 }
-        ensures { IfOk result (IsStep (site_in anchor.now inputs.now crls.now
-            (S.accepts check.now) self.entry.state self.entry.policies.certificates
-            (cert_in cert.now) false)) }
+        ensures { IfOk result (IsStep (at (asked_by S.accepts context.now) self.entry.state
+            self.entry.policies.certificates (cert_in cert.now) false)) }
     {
-        let met = match self.judge(alloc, anchor, inputs, crls, check, cert, false)? {
-            Judged::Met(met) => met,
-            Judged::Failed(reason) => return Ok(Step::Stop(reason)),
+        let met = match self.judge(alloc, context, cert, false)? {
+            Judgement::Met(met) => met,
+            Judgement::Failed(reason) => return Ok(Step::Stop(reason)),
         };
         if met.maps_any {
             return Ok(Step::Stop(Reason::MapsAny));
@@ -131,30 +121,26 @@ impl<'a> Walk<'a> {
     pub(crate) fn end<S: SignatureCheck>(
         self,
         alloc: Global,
-        anchor: &Anchor<'a>,
-        inputs: &Inputs<'a>,
-        crls: &Crls<'_>,
-        check: &S,
+        context: &Context<'_, '_, 'a, S>,
         cert: &Cert<'a>,
     ) -> Result<End<'a>, AllocError>
         requires { self.policies.mapped ≡ true }
-        ensures { IfOk result (IsEnd (site_in anchor.now inputs.now crls.now
-            (S.accepts check.now) self.entry.state self.entry.policies.certificates
-            (cert_in cert.now) true)) }
+        ensures { IfOk result (IsEnd (at (asked_by S.accepts context.now) self.entry.state
+            self.entry.policies.certificates (cert_in cert.now) true)) }
     {
-        let met = match self.judge(alloc, anchor, inputs, crls, check, cert, true)? {
-            Judged::Met(met) => met,
-            Judged::Failed(reason) => return Ok(End::Refused(reason)),
+        let met = match self.judge(alloc, context, cert, true)? {
+            Judgement::Met(met) => met,
+            Judgement::Failed(reason) => return Ok(End::Refused(reason)),
         };
         if let Some(reason) = first_of_extensions(cert) {
             return Ok(End::Refused(reason));
         }
         let explicit = met.state.final_explicit(cert);
-        let accepted = met.policies.finish(alloc, inputs.user_policies)?;
+        let accepted = met.policies.finish(alloc, context.inputs.user_policies)?;
         if accepts_none(explicit, &accepted) {
             return Ok(End::Refused(Reason::FinalPolicy));
         }
-        if !is_meant_for(inputs.purpose, cert) {
+        if !is_meant_for(context.inputs.purpose, cert) {
             return Ok(End::Refused(Reason::Purpose));
         }
         Ok(End::Accepted(accepted))
@@ -164,30 +150,25 @@ impl<'a> Walk<'a> {
     fn judge<S: SignatureCheck>(
         self,
         alloc: Global,
-        anchor: &Anchor<'a>,
-        inputs: &Inputs<'a>,
-        crls: &Crls<'_>,
-        check: &S,
+        context: &Context<'_, '_, 'a, S>,
         cert: &Cert<'a>,
         last: bool,
-    ) -> Result<Judged<'a>, AllocError>
+    ) -> Result<Judgement<'a>, AllocError>
         requires { self.policies.mapped ≡ true }
-        ensures { IfOk result (IsJudged
-            (site_in anchor.now inputs.now crls.now
-            (S.accepts check.now) self.entry.state self.entry.policies.certificates
-            (cert_in cert.now) last)) }
+        ensures { IfOk result (IsJudged (at (asked_by S.accepts context.now) self.entry.state
+            self.entry.policies.certificates (cert_in cert.now) last)) }
     {
         let state = self.state;
-        if let Some(reason) = state.first_of_basics(anchor, inputs, crls, check, cert, last) {
-            return Ok(Judged::Failed(reason));
+        if let Some(reason) = state.first_before_policies(context, cert, last) {
+            return Ok(Judgement::Failed(reason));
         }
         let stated = state.policies_of(alloc, cert, last)?;
         let maps_any = stated.maps_any();
         let policies = self.policies.certificate(alloc, stated)?;
         if state.lacks_policy(&policies) {
-            return Ok(Judged::Failed(Reason::PolicyRequired));
+            return Ok(Judgement::Failed(Reason::PolicyRequired));
         }
-        Ok(Judged::Met(Met {
+        Ok(Judgement::Met(AfterPolicies {
             state,
             policies,
             maps_any,

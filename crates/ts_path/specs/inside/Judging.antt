@@ -13,8 +13,8 @@ use Rattle.ts_policy.specs.Paths.{MapsNoAny}
 use Rattle.ts_policy.specs.Seen.{Seen}
 use Rattle.ts_policy.specs.Accepted.{AreAscending}
 use Rattle.ts_path.specs.declared.counters.Counters.{Counters}
-use Rattle.ts_path.specs.declared.walk.Judged.{Judged}
-use Rattle.ts_path.specs.declared.walk.Judged.TheVariants.{Met, Failed}
+use Rattle.ts_path.specs.declared.walk.Judgement.{Judgement}
+use Rattle.ts_path.specs.declared.walk.Judgement.TheVariants.{Met, Failed}
 use Rattle.ts_path.specs.declared.walk.Step.{Step}
 use Rattle.ts_path.specs.declared.walk.Step.TheVariants.{Next, Stop}
 use Rattle.ts_path.specs.declared.walk.End.{End}
@@ -42,9 +42,9 @@ pub record FailsFirst (x : Site) (r : Reason OidRef) : Type 0 where
   pub details : Details r x
 
 -- all conditions of a lesser number are met, or the reason names the first that is not
-abbrev pub Finds : ℕ → Site → Option (Reason OidRef) → Type 0
-Finds n x None = MeetsBelow n x
-Finds n x (Some r) = FailsFirst x r
+abbrev pub FindsBelow : ℕ → Site → Option (Reason OidRef) → Type 0
+FindsBelow n x None = MeetsBelow n x
+FindsBelow n x (Some r) = FailsFirst x r
 
 -- ---- from a certificate to the one that follows it (6.1.4)
 
@@ -92,7 +92,7 @@ Took policies mapped x = policies ≡ record { certificates = policies_to x; map
 
 -- a certificate meets the conditions up to that on the valid policy tree, or one of these is the
 -- first that it does not meet
-abbrev pub IsJudged : Site → Judged → Type 0
+abbrev pub IsJudged : Site → Judgement → Type 0
 IsJudged x (Met m) =
     MeetsBelow 12 x × (m.state ≡ x.state) × Took m.policies false x
     × ((m.maps_any ≡ false) ↔ MapsNoAny (policies_at x.state x.certificate x.last))

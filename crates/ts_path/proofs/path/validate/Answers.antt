@@ -1,5 +1,5 @@
 -- From a certificate to the next, and the verdict.
-use Rattle.std.proofs.Common.{◌≡◌, ◌↔◌, ℕ, suc, ◌+◌, ◌-◌, ◌≤◌, ◌<◌, Bool, true, false, nat_eq, List, [], ◌∷◌, length, map, take, drop, refl, sym, ap, subst, ◌∙◌, arith}
+use Rattle.std.proofs.Common.{◌≡◌, ◌↔◌, ℕ, suc, ◌+◌, ◌-◌, ◌≤◌, ◌<◌, Bool, true, false, nat_eq, List, [], ◌∷◌, length, get_or, map, take, drop, refl, sym, ap, subst, ◌∙◌, arith}
 use Rattle.std.proofs.lemmas.Bool.{true≢false}
 use Rattle.std.proofs.lemmas.Bool.Decides.{Decides-eqb}
 use Rattle.ts_cert.specs.declared.certificate.Cert.{Cert}
@@ -26,6 +26,14 @@ as_long : (xs : List Cert) → length (map cert_in xs) ≡ length xs
 as_long [] = refl
 as_long (x ∷ xs) = ap suc (as_long xs)
 
+-- the certificates below the first
+abbrev below_of : List Cert → List Cert
+below_of rest = take (length rest - 1) (drop 1 rest)
+
+first_of : (rest : List Cert) (x d : Cert) → 1 ≤ length rest → x ≡ get_or rest 0 d
+    → map cert_in rest ≡ cert_in x ∷ map cert_in (below_of rest)
+first_of rest x d some is = ap (map cert_in) (split_first rest x d some is)
+
 none_left : (xs : List Cert) → 1 ≤ length xs → xs ≡ [] → ⊥
 none_left xs some e = let n = ap length e in omega (arith, some, n)
 
@@ -37,7 +45,7 @@ loop-rest-init g c =
       [],
       refl,
       none_left c.args.chain.now c.requires.some,
-      c.in_ok-walk.ensures.state c.args.crls.now q.asked.good ∙ ap (λ (k : ℕ). state_at q.asked k []) n,
+      c.in_ok-walk.ensures.state ∙ ap (λ (k : ℕ). state_at q.asked k []) n,
       c.in_ok-walk.ensures.policies,
       none_passed q,
     )
@@ -105,18 +113,17 @@ loop-rest-preserved g c =
     let i = c.loop-rest.invariant in
     let cert = cert_in c.cert-item.result in
     let rest = c.loop-rest.rest.now in
-    let below = take (length rest - 1) (drop 1 rest) in
-    let split : map cert_in rest ≡ cert ∷ map cert_in below = ap (map cert_in) (split_first rest c.cert-item.result _ c.in-len1-up.len_at_least c.cert-item.is) in
+    let split = first_of rest c.cert-item.result _ c.in-len1-up.len_at_least c.cert-item.is in
     let step = subst (IsStep (at q.asked c.loop-rest.walk.state c.loop-rest.walk.policies.certificates cert false)) c.in-Next.is c.in_ok-next.ensures in
     let state = i.3 in
     let policies = ap (λ (s : Seen). s.certificates) i.4 in (
       cert ∷ i.0,
       i.1 ∙ ap (chained i.0) split,
-      has_more below c.if-is_empty.ensures,
+      has_more (below_of rest) c.if-is_empty.ensures,
       state_goes_on q i.0 cert c.loop-rest.walk.state c.in-Next.next.state state step.1,
       policies_go_on q i.0 cert c.loop-rest.walk.state c.loop-rest.walk.policies.certificates c.in-Next.next.policies state policies step.2,
-      passed q i.0 (map cert_in rest) (map cert_in below) cert c.loop-rest.walk.state
-          c.loop-rest.walk.policies.certificates i.1 split (more_certs below c.if-is_empty.ensures)
+      passed q i.0 (map cert_in rest) (map cert_in (below_of rest)) cert c.loop-rest.walk.state
+          c.loop-rest.walk.policies.certificates i.1 split (more_certs (below_of rest) c.if-is_empty.ensures)
           state policies i.5 step.0,
     )
 
@@ -126,10 +133,9 @@ position-position-requires g c =
     let i = c.loop-rest.invariant in
     let cert = cert_in c.cert-item.result in
     let rest = c.loop-rest.rest.now in
-    let below = take (length rest - 1) (drop 1 rest) in
-    let split : map cert_in rest ≡ cert ∷ map cert_in below = ap (map cert_in) (split_first rest c.cert-item.result _ c.in-len1-up.len_at_least c.cert-item.is) in
+    let split = first_of rest c.cert-item.result _ c.in-len1-up.len_at_least c.cert-item.is in
     subst (λ (s : PathState). s.passed < 255) (sym i.3)
-    (few_passed q i.0 (map cert_in rest) cert (map cert_in below) i.1 split
+    (few_passed q i.0 (map cert_in rest) cert (map cert_in (below_of rest)) i.1 split
     (subst (λ (k : ℕ). k ≤ 16) (sym (as_long c.args.chain.now)) c.requires.few))
 
 pub returns-in-Stop : goal.returns-in-Stop
@@ -138,12 +144,11 @@ returns-in-Stop g c =
     let i = c.loop-rest.invariant in
     let cert = cert_in c.cert-item.result in
     let rest = c.loop-rest.rest.now in
-    let below = take (length rest - 1) (drop 1 rest) in
-    let split : map cert_in rest ≡ cert ∷ map cert_in below = ap (map cert_in) (split_first rest c.cert-item.result _ c.in-len1-up.len_at_least c.cert-item.is) in
+    let split = first_of rest c.cert-item.result _ c.in-len1-up.len_at_least c.cert-item.is in
     let f = subst (IsStep (at q.asked c.loop-rest.walk.state c.loop-rest.walk.policies.certificates cert false)) c.in-Stop.is c.in_ok-next.ensures in
-    stopped q i.0 (map cert_in rest) (map cert_in below) cert c.loop-rest.walk.state
+    stopped q i.0 (map cert_in rest) (map cert_in (below_of rest)) cert c.loop-rest.walk.state
     c.loop-rest.walk.policies.certificates false _ c.in-Stop.reason i.1 split
-    (more_certs below c.if-is_empty.ensures) i.3 (ap (λ (s : Seen). s.certificates) i.4) i.5 f
+    (more_certs (below_of rest) c.if-is_empty.ensures) i.3 (ap (λ (s : Seen). s.certificates) i.4) i.5 f
     c.position-position.ensures
 
 pub returns-in-Refused : goal.returns-in-Refused
@@ -152,12 +157,11 @@ returns-in-Refused g c =
     let i = c.loop-rest.invariant in
     let cert = cert_in c.cert-item.result in
     let rest = c.loop-rest.rest.now in
-    let below = take (length rest - 1) (drop 1 rest) in
-    let split : map cert_in rest ≡ cert ∷ map cert_in below = ap (map cert_in) (split_first rest c.cert-item.result _ c.in-len1-up.len_at_least c.cert-item.is) in
+    let split = first_of rest c.cert-item.result _ c.in-len1-up.len_at_least c.cert-item.is in
     let f = subst (IsEnd (at q.asked c.loop-rest.walk.state c.loop-rest.walk.policies.certificates cert true)) c.in-Refused.is c.in_ok-policies.ensures in
-    stopped q i.0 (map cert_in rest) (map cert_in below) cert c.loop-rest.walk.state
+    stopped q i.0 (map cert_in rest) (map cert_in (below_of rest)) cert c.loop-rest.walk.state
     c.loop-rest.walk.policies.certificates true _ c.in-Refused.reason i.1 split
-    (none_below below c.if-is_empty.ensures) i.3 (ap (λ (s : Seen). s.certificates) i.4) i.5 f
+    (none_below (below_of rest) c.if-is_empty.ensures) i.3 (ap (λ (s : Seen). s.certificates) i.4) i.5 f
     c.position-position.ensures
 
 pub returns-in-Accepted : goal.returns-in-Accepted
@@ -166,11 +170,10 @@ returns-in-Accepted g c =
     let i = c.loop-rest.invariant in
     let cert = cert_in c.cert-item.result in
     let rest = c.loop-rest.rest.now in
-    let below = take (length rest - 1) (drop 1 rest) in
-    let split : map cert_in rest ≡ cert ∷ map cert_in below = ap (map cert_in) (split_first rest c.cert-item.result _ c.in-len1-up.len_at_least c.cert-item.is) in
+    let split = first_of rest c.cert-item.result _ c.in-len1-up.len_at_least c.cert-item.is in
     let f = subst (IsEnd (at q.asked c.loop-rest.walk.state c.loop-rest.walk.policies.certificates cert true)) c.in-Accepted.is c.in_ok-policies.ensures in
-    ended q i.0 (map cert_in rest) (map cert_in below) cert c.loop-rest.walk.state
+    ended q i.0 (map cert_in rest) (map cert_in (below_of rest)) cert c.loop-rest.walk.state
     c.loop-rest.walk.policies.certificates
     (map (λ p. p.content.now) c.in-Accepted.policies.items) i.1 split
-    (none_below below c.if-is_empty.ensures) i.3 (ap (λ (s : Seen). s.certificates) i.4) i.5 f.0
+    (none_below (below_of rest) c.if-is_empty.ensures) i.3 (ap (λ (s : Seen). s.certificates) i.4) i.5 f.0
     f.1 f.2

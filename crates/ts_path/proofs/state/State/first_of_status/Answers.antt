@@ -19,23 +19,23 @@ undetermined_not_revoked s code a b = cc (a ∙ b)
 
 pub returns-in-Good : goal.returns-in-Good
 unfolding Meets
-returns-in-Good g c = λ anchor above last before.
-    let e = c.in-Good.ensures anchor above last in
+returns-in-Good g c = λ above before.
+    let e = c.in-Good.ensures above in
     next _ undetermined (next _ revoked before (λ code is. good_not_revoked _ code e is)) (λ hard is. good_not_undetermined _ e is)
 
 pub returns-in-Revoked : goal.returns-in-Revoked
 unfolding Meets
-returns-in-Revoked g c = λ anchor above last before.
-    let e = sym (c.in-Revoked.ensures anchor above last) in record { fails = λ is. is c.in-Revoked.code e; first = before; details = e }
+returns-in-Revoked g c = λ above before.
+    let e = sym (c.in-Revoked.ensures above) in record { fails = λ is. is c.in-Revoked.code e; first = before; details = e }
 
-pub returns-then-inputs : goal.returns-then-inputs
+pub returns-then-context : goal.returns-then-context
 unfolding Meets
-returns-then-inputs g c = λ anchor above last before.
-    let e = c.in-Undetermined.ensures anchor above last in
-    record { fails = λ is. is c.if-inputs.true (sym e); first = next _ revoked before (λ code is. undetermined_not_revoked _ code e is); details = tt }
+returns-then-context g c = λ above before.
+    let e = c.in-Undetermined.ensures above in
+    record { fails = λ is. is c.if-context.true (sym e); first = next _ revoked before (λ code is. undetermined_not_revoked _ code e is); details = tt }
 
-pub returns-else-inputs : goal.returns-else-inputs
+pub returns-else-context : goal.returns-else-context
 unfolding Meets
-returns-else-inputs g c = λ anchor above last before.
-    let e = c.in-Undetermined.ensures anchor above last in
-    next _ undetermined (next _ revoked before (λ code is. undetermined_not_revoked _ code e is)) (λ hard. absurd (false≢true (sym c.if-inputs.false ∙ hard)))
+returns-else-context g c = λ above before.
+    let e = c.in-Undetermined.ensures above in
+    next _ undetermined (next _ revoked before (λ code is. undetermined_not_revoked _ code e is)) (λ hard. absurd (false≢true (sym c.if-context.false ∙ hard)))

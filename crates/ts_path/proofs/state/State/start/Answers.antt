@@ -9,16 +9,16 @@ use Rattle.ts_path.proofs.state.State.start.Goals as goal
 
 pub returns : goal.returns
 unfolding state_at counters_at parameters_of
-returns c = λ crls good. λ i. record {
+returns g c = λ i. record {
   passed = 0;
-  name = rdns_in c.args.anchor.now.name;
+  name = rdns_in c.args.context.now.anchor.now.name;
   key = c.key_of_anchor.ensures i;
   usage = None;
   sources = c.in_ok-initial.ensures i;
   counters = record {
-    explicit_policy = (c.start.ensures.explicit_policy ∙ sym (starts (λ c. explicit_policy_of c.tbsCertificate) (start c.args.length c.args.inputs.now.explicit_policy))) i;
-    policy_mapping = (c.start.ensures.policy_mapping ∙ sym (starts (λ c. inhibit_policy_mapping_of c.tbsCertificate) (start c.args.length c.args.inputs.now.inhibit_policy_mapping))) i;
-    inhibit_any_policy = (c.start.ensures.inhibit_any_policy ∙ sym (starts (λ c. any_policy_of c.tbsCertificate) (start c.args.length c.args.inputs.now.inhibit_any_policy))) i;
+    explicit_policy = (c.start.ensures.explicit_policy ∙ sym (starts (λ c. explicit_policy_of c.tbsCertificate) (start c.args.length c.args.context.now.inputs.now.explicit_policy))) i;
+    policy_mapping = (c.start.ensures.policy_mapping ∙ sym (starts (λ c. inhibit_policy_mapping_of c.tbsCertificate) (start c.args.length c.args.context.now.inputs.now.inhibit_policy_mapping))) i;
+    inhibit_any_policy = (c.start.ensures.inhibit_any_policy ∙ sym (starts (λ c. any_policy_of c.tbsCertificate) (start c.args.length c.args.context.now.inputs.now.inhibit_any_policy))) i;
     max_path_length = (c.start.ensures.max_path_length ∙ sym (starts (λ c. path_length_of c.tbsCertificate) c.args.length)) i;
   };
 }

@@ -5,7 +5,7 @@ use Rattle.ts_path.specs.Extensions.{first_refused}
 use Rattle.ts_path.specs.Conditions.{Meets}
 use Rattle.ts_reason.specs.Conditions.{critical_extension}
 use Rattle.ts_path.proofs.Steps.{next}
-use Rattle.ts_path.proofs.judging.first_of_extensions.Goals as goal
+use Rattle.ts_path.proofs.conditions.first_of_extensions.Goals as goal
 
 is_some : {T : Type 0} (o : Option T) (x : T) → o ≡ Some x → o ≡ None → ⊥
 is_some o x a b = cc (sym a ∙ b)
