@@ -45,7 +45,7 @@ impl<S: SignatureCheck> Model for Answers<S> {
 
     ghost view = { λ a. record { check = a.check; commands = a.history } };
 
-    ghost invariant = { λ a. AreCached (S.accepts a.check) a.history a.cache.entries
+    ghost invariant = { λ a. AreCached (S.accepts a.check) a.history a.cache
         × AreEntries a.log.items a.history × AreTaken a.history };
 }
 
@@ -71,7 +71,7 @@ impl<S: SignatureCheck> Answers<S> {
             check,
             history: History::new(alloc),
             log: Vec::new(alloc),
-            cache: Cache::new(),
+            cache: Cache::new(alloc),
         }
     }
 

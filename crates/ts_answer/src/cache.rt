@@ -1,18 +1,15 @@
 //! The answers that were given last.
 
-ghost use Rattle.std.specs.Prelude.{◌≡◌, ◌⊎◌, [], Some, IfSome, option_map};
-ghost use Rattle.std.specs.Map.{lookup};
-ghost use Rattle.std.specs.Str.{bytes_eq};
-ghost use Rattle.lru.specs.LruCache.{lru_cache, promoted, put_entries};
+ghost use Rattle.std.specs.Prelude.{◌≡◌, [], Contains, IfSome};
 ghost use Rattle.ts_question.specs.Question.{QuestionFits};
 ghost use Rattle.ts_question.specs.Reply.{AnswerFits, answer_encoding};
+ghost use Rattle.ts_recent.specs.Recent.{AreAmong, AreAmongOr};
 ghost use Rattle.ts_answer.specs.inside.Cache.{key_of};
 
-use lru::LruCache;
 use std::alloc::Global;
 use std::marker::Model;
-use std::num::NonZeroUsize;
 use ts_question::{Answer, OctetStrings, Question, Target};
+use ts_recent::{Key, Recent};
 
 /// How many answers are cached.
 const MAX_ANSWERS: usize = 64;
@@ -27,23 +24,19 @@ const MAX_OCTETS: usize = 131_072;
 const KEY_ROOM: usize = 1_024;
 
 /// The answers that were given last, each under its key, as octets. Contracts see the pairs of key
-/// and answer, those that were used last first.
-///
-/// The hasher has a fixed seed. A stranger can choose questions whose keys have one hash, and then
-/// a look-up compares at most 64 keys.
+/// and answer.
 #[derive(Drop)]
 pub(crate) struct Cache {
-    pairs: Option<LruCache<Vec<u8>, Vec<u8>>>,
+    answers: Recent<Vec<u8>>,
 }
 
 impl Model for Cache {
-    ghost use Rattle.std.specs.Prelude.{ℕ, List};
-    ghost use Rattle.lru.specs.LruCache.{LruCache as Pairs};
-    ghost use Rattle.ts_answer.specs.inside.CacheView.{pairs_in};
+    ghost use Rattle.std.specs.Prelude.{ℕ, List, map};
+    ghost use Rattle.ts_answer.specs.inside.CacheView.{octets_in};
 
-    ghost Value = { Pairs (List ℕ) (List ℕ) };
+    ghost Value = { List (List ℕ × List ℕ) };
 
-    ghost view = { λ c. pairs_in c.pairs };
+    ghost view = { λ c. map octets_in c.answers };
 }
 
 /// How many octets these strings have.
@@ -81,8 +74,8 @@ fn is_of_page(question: &Question) -> bool {
 /// The key of the answer to a question after the first k commands. `None` for a question that is
 /// too long or one for a page, and where memory is refused: such an answer is given without the
 /// cache.
-pub(crate) fn key_of(alloc: Global, k: u32, question: &Question) -> Option<Vec<u8>>
-    ensures key { IfSome result (λ key. key.items ≡ key_of k question.now) }
+pub(crate) fn key_of(alloc: Global, k: u32, question: &Question) -> Option<Key>
+    ensures key { IfSome result (λ key. key ≡ key_of k question.now) }
     ensures fits { QuestionFits question.now }
 {
     let _target = question.target();
@@ -93,81 +86,47 @@ pub(crate) fn key_of(alloc: Global, k: u32, question: &Question) -> Option<Vec<u
     let mut key = Vec::with_capacity(alloc, size + KEY_ROOM).ok()?;
     key.extend_from_slice(&k.to_be_bytes()).ok()?;
     question.write(&mut key).ok()?;
-    Some(key)
-}
-
-/// Room for pairs. `None` where memory is refused.
-fn room(alloc: Global) -> Option<LruCache<Vec<u8>, Vec<u8>>>
-    ensures { IfSome result (λ pairs. pairs ≡ lru_cache [] 64) }
-{
-    LruCache::new(alloc, NonZeroUsize::new(MAX_ANSWERS)?).ok()
-}
-
-/// The answer under a key. `None` where there is none, and where memory is refused.
-fn read_under(alloc: Global, pairs: &LruCache<Vec<u8>, Vec<u8>>, key: &[u8]) -> Option<Answer>
-    ensures { IfSome result (λ answer. AnswerFits answer
-        × (option_map (λ v. v.items) (lookup (λ v. bytes_eq key.now v.items) pairs.now.entries)
-        ≡ Some (answer_encoding answer))) }
-{
-    let octets = pairs.peek(key)?;
-    match Answer::read(alloc, octets) {
-        Ok(answer) => answer,
-        Err(_) => None,
-    }
+    Some(Key::of(key))
 }
 
 impl Cache {
-    /// No answers. Room for them is taken when the first is cached.
-    pub(crate) fn new() -> Cache
-        ensures { result ≡ lru_cache [] 64 }
+    /// No answers.
+    pub(crate) fn new(alloc: Global) -> Cache
+        ensures { result ≡ [] }
     {
-        Cache { pairs: None }
+        Cache {
+            answers: Recent::new(alloc, MAX_ANSWERS),
+        }
+    }
+
+    /// The answer under a key. `None` where there is none, and where memory is refused.
+    fn read(&self, alloc: Global, key: &Key) -> Option<Answer>
+        ensures { IfSome result (λ answer. AnswerFits answer
+            × Contains self.now (key.now, answer_encoding answer)) }
+    {
+        let octets = self.answers.find(key)?;
+        match Answer::read(alloc, octets) {
+            Ok(answer) => answer,
+            Err(_) => None,
+        }
     }
 
     /// The answer under a key, which then is the one that was used last. `None` where there is
     /// none, and where memory is refused.
-    pub(crate) fn find(&mut self, alloc: Global, key: &[u8]) -> Option<Answer>
+    pub(crate) fn find(&mut self, alloc: Global, key: &Key) -> Option<Answer>
         ensures found { IfSome result (λ answer. AnswerFits answer
-            × (lookup (bytes_eq key.now) self.old.entries ≡ Some (answer_encoding answer))) }
-        ensures order { self.new ≡ lru_cache
-            (promoted (bytes_eq key.now) self.old.entries) self.old.cap }
+            × Contains self.old (key.now, answer_encoding answer)) }
+        ensures others { AreAmong self.new self.old }
     {
-        let Some(pairs) = &mut self.pairs else {
-            return None;
-        };
-        let answer = read_under(alloc, pairs, key);
-        let _is_there = pairs.promote(key);
-        answer
-    }
-
-    /// Takes room for pairs, if there is none yet.
-    fn take_room(&mut self, alloc: Global)
-        ensures { self.new ≡ self.old }
-    {
-        if self.pairs.is_none() {
-            self.pairs = room(alloc);
-        }
-    }
-
-    /// Puts octets under a key. Where memory is refused nothing is changed.
-    fn put(&mut self, key: Vec<u8>, octets: Vec<u8>)
-        ensures { (self.new ≡ self.old)
-            ⊎ (self.new ≡ lru_cache (put_entries bytes_eq self.old key.items octets.items)
-            self.old.cap) }
-    {
-        let Some(pairs) = &mut self.pairs else {
-            return;
-        };
-        let _before = pairs.put(key, octets);
+        let answer = self.read(alloc, key)?;
+        self.answers.touch(key);
+        Some(answer)
     }
 
     /// Caches an answer under its key. Nothing is changed where the answer is too long, and where
     /// memory is refused.
-    pub(crate) fn keep(&mut self, alloc: Global, key: Vec<u8>, answer: &Answer)
-        ensures { (self.new ≡ self.old)
-            ⊎ (self.new ≡ lru_cache (put_entries bytes_eq self.old key.items
-            (answer_encoding answer.now))
-            self.old.cap) }
+    pub(crate) fn keep(&mut self, alloc: Global, key: Key, answer: &Answer)
+        ensures { AreAmongOr (key, answer_encoding answer.now) self.new self.old }
     {
         let Ok(octets) = answer.octets(alloc) else {
             return;
@@ -175,7 +134,6 @@ impl Cache {
         if octets.len() > MAX_OCTETS {
             return;
         }
-        self.take_room(alloc);
-        self.put(key, octets);
+        self.answers.keep(key, octets);
     }
 }

@@ -4,3 +4,4 @@ pub mod ByRsa
 pub mod ByEcdsa
 pub mod ByEd25519
 pub mod Natives
+pub mod OneHash

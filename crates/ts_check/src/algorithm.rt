@@ -4,6 +4,7 @@ ghost use Rattle.std.specs.Prelude.{◌≡◌, true, false};
 ghost use Rattle.ts_check.specs.Algorithm.{algorithm_named, ecdsa_identifier, ed25519_identifier};
 ghost use Rattle.ts_check.specs.Algorithm.{is_pkcs1, is_pss, named_with, pkcs1_identifier};
 ghost use Rattle.ts_check.specs.Algorithm.{pss_identifier};
+ghost use Rattle.ts_check.specs.Native.{hash_named};
 
 use ts_digest::Hash;
 
@@ -196,4 +197,19 @@ pub fn algorithm_named(identifier: &[u8]) -> Option<SignatureAlgorithm>
         return Some(algorithm);
     }
     named_with(identifier, Hash::Sha512)
+}
+
+/// The function by which the algorithm that an identifier names hashes what is signed: the signature
+/// depends on nothing else of it. `None` for Ed25519, which signs the octets themselves, and for
+/// what names no algorithm.
+#[tactic(auto, unfolding(crate::specs::Native::hash_named))]
+pub fn hash_named(identifier: &[u8]) -> Option<Hash>
+    ensures { result ≡ hash_named identifier.now }
+{
+    match algorithm_named(identifier) {
+        Some(SignatureAlgorithm::Pkcs1(hash)) => Some(hash),
+        Some(SignatureAlgorithm::Pss(hash)) => Some(hash),
+        Some(SignatureAlgorithm::Ecdsa(hash)) => Some(hash),
+        Some(SignatureAlgorithm::Ed25519) | None => None,
+    }
 }

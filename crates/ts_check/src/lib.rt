@@ -35,5 +35,5 @@ mod native;
 mod public_key;
 mod rsa;
 
-pub use algorithm::{ALGORITHMS, SignatureAlgorithm, algorithm_named};
+pub use algorithm::{ALGORITHMS, SignatureAlgorithm, algorithm_named, hash_named};
 pub use native::NativeCheck;

@@ -10,9 +10,9 @@
 //! - [`hash_of_message`], [`hash_of_parts`]: the octets are the hash that `sha2` defines, of the
 //!   message or of three slices one after another (`specs/Hash`).
 //! - [`size_of_hash`]: how many octets a hash has.
-//! - [`Digest::of`], [`Message::of`], [`Message::with_digest`], [`Message::hash_by`]: octets that are
-//!   signed, whose hash is computed once where they are checked many times: what is answered is the
-//!   hash of the octets in any case.
+//! - [`Digest::of`], [`Message::of`], [`Message::with_digest`], [`Message::digest`],
+//!   [`Message::hash_by`]: octets that are signed, whose hash is computed once where they are checked
+//!   many times: what is answered is the hash of the octets in any case.
 //! - [`append`]: the octets behind those of an array that has room for them.
 //!
 //! [`likely_hash`] names the function by which a signature algorithm is likely to hash. No promise

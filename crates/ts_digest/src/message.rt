@@ -1,6 +1,6 @@
 //! Octets that are signed, with their hash where it is known.
 
-ghost use Rattle.std.specs.Prelude.{◌≡◌, Some};
+ghost use Rattle.std.specs.Prelude.{◌≡◌, Some, IfSome};
 ghost use Rattle.std.specs.Borrow.{Bor};
 ghost use Rattle.ts_digest.specs.declared.message.Digest.{Digest as DigestOf};
 ghost use Rattle.arrayvec.specs.ArrayVec.{array_vec_len};
@@ -58,6 +58,13 @@ impl<'a> Message<'a> {
             octets,
             digest: Some(digest),
         }
+    }
+
+    /// The hash that is known.
+    pub fn digest(&self) -> Option<&'a Digest>
+        ensures { IfSome result (λ digest. IsDigestOf digest.now self.now.octets.now) }
+    {
+        self.digest
     }
 
     /// The hash of the octets, which is computed only where it is not known.

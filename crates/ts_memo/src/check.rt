@@ -3,7 +3,7 @@
 ghost use Rattle.ts_check.specs.Native.{native_accepts};
 
 use crate::memo::Memo;
-use std::alloc::{AllocError, Global};
+use std::alloc::Global;
 use std::cell::RefCell;
 use ts_check::NativeCheck;
 use ts_digest::Message;
@@ -17,15 +17,10 @@ pub struct MemoCheck {
 
 impl MemoCheck {
     /// A check that has no answers yet.
-    ///
-    /// # Errors
-    ///
-    /// Out of memory.
-    pub fn new(alloc: Global) -> Result<MemoCheck, AllocError> {
-        let memo = Memo::new(alloc)?;
-        Ok(MemoCheck {
-            memo: RefCell::new(memo),
-        })
+    pub fn new(alloc: Global) -> MemoCheck {
+        MemoCheck {
+            memo: RefCell::new(Memo::new(alloc)),
+        }
     }
 }
 

@@ -1,19 +1,18 @@
 //! The answers that are kept.
 
-ghost use Rattle.std.specs.Prelude.{◌≡◌, ◌<◌, ◌^◌, ◌++◌, IfSome, IsSome, OnOk};
+ghost use Rattle.std.specs.Prelude.{◌≡◌, ◌<◌, ◌^◌, ◌++◌, length, IfSome, OnOk};
 ghost use Rattle.std.specs.Option.{option_copied};
 ghost use Rattle.ts_sig.specs.Key.{key_of};
 ghost use Rattle.ts_check.specs.Native.{native_accepts};
-ghost use Rattle.ts_memo.specs.inside.Memo.{Fits, IsRight, IsShort, question_octets};
-ghost use Rattle.ts_memo.specs.inside.Memo.{parameters_octets};
+ghost use Rattle.ts_memo.specs.inside.Memo.{Asks, Fits, IsRight, IsShort, StandsFor};
+ghost use Rattle.ts_memo.specs.inside.Memo.{parameters_octets, question_octets, text_octets};
 
-use lru::LruCache;
 use std::alloc::{AllocError, Global};
 use std::marker::Model;
-use std::num::NonZeroUsize;
-use ts_check::NativeCheck;
+use ts_check::{NativeCheck, hash_named};
 use ts_codec::writing::push_blob32;
 use ts_digest::Message;
+use ts_recent::{Key, Recent};
 use ts_sig::{SignatureCheck, WorkingKey};
 
 /// How many answers are kept.
@@ -26,19 +25,18 @@ const MAX_OCTETS: usize = 8_192;
 /// How much room the octets of a question have for the lengths of its parts, with some to spare.
 const ROOM: usize = 64;
 
-/// The octets of what was asked, and the answer.
-#[derive(Drop)]
-pub(crate) struct KeptAnswer {
-    octets: Vec<u8>,
-    good: bool,
+/// What stands for signed octets in a question: their hash, or all of them.
+#[derive(Clone, Copy)]
+pub(crate) struct SignedText<'a> {
+    is_hash: bool,
+    octets: &'a [u8],
 }
 
-/// The answers that were used last, each under its signature: two questions about one signature
-/// take turns.
+/// The answers that were used last.
 #[derive(Drop)]
 pub(crate) struct Memo {
     alloc: Global,
-    answers: LruCache<Vec<u8>, KeptAnswer>,
+    answers: Recent<bool>,
 }
 
 impl Model for Memo {
@@ -48,13 +46,36 @@ impl Model for Memo {
 
     ghost view = { λ _. tt };
 
-    ghost invariant = { λ m. AreRight m.answers.entries };
+    ghost invariant = { λ m. AreRight m.answers };
+}
+
+/// What stands for signed octets: their hash, where that is known and the algorithm hashes them so.
+fn text_of<'a>(algorithm: &[u8], signed: &Message<'a>) -> SignedText<'a>
+    ensures { StandsFor algorithm.now signed.now.octets.now result.is_hash result.octets.now }
+{
+    if let Some(digest) = signed.digest() {
+        if hash_named(algorithm) == Some(digest.hash) {
+            return SignedText {
+                is_hash: true,
+                octets: digest.octets.as_slice(),
+            };
+        }
+    }
+    SignedText {
+        is_hash: false,
+        octets: signed.octets,
+    }
 }
 
 /// How many octets the parts of a question have.
-fn size_of(algorithm: &[u8], key: &WorkingKey<'_>, signed: &Message<'_>, signature: &[u8]) -> usize
+fn size_of(
+    algorithm: &[u8],
+    key: &WorkingKey<'_>,
+    text: SignedText<'_>,
+    signature: &[u8],
+) -> usize
     ensures { result < 2 ^ 32
-        → Fits algorithm.now (key_of key.now) signed.now.octets.now signature.now }
+        → Fits algorithm.now (key_of key.now) text.entry.octets.now signature.now }
 {
     let parameters = match key.parameters {
         Some(parameters) => parameters.len(),
@@ -66,7 +87,7 @@ fn size_of(algorithm: &[u8], key: &WorkingKey<'_>, signed: &Message<'_>, signatu
         .saturating_add(parameters)
         .saturating_add(key.octets.len())
         .saturating_add(signature.len())
-        .saturating_add(signed.octets.len())
+        .saturating_add(text.octets.len())
 }
 
 /// Writes the parameters of a key: whether there are any, and which.
@@ -87,80 +108,85 @@ fn push_parameters(out: &mut Vec<u8>, parameters: Option<&[u8]>) -> Result<(), A
     }
 }
 
+/// Writes what stands for the signed octets: whether it is their hash, and its octets.
+fn push_text(out: &mut Vec<u8>, text: SignedText<'_>) -> Result<(), AllocError>
+    requires { length text.octets.now < 2 ^ 32 }
+    ensures { OnOk result (out.new.items
+        ≡ out.old.items ++ text_octets text.entry.is_hash text.entry.octets.now) }
+{
+    out.push(u8::from(text.is_hash))?;
+    push_blob32(out, text.octets)
+}
+
 /// Writes the octets of a question.
 fn push_question(
     out: &mut Vec<u8>,
     algorithm: &[u8],
     key: &WorkingKey<'_>,
-    signed: &Message<'_>,
+    text: SignedText<'_>,
     signature: &[u8],
 ) -> Result<(), AllocError>
-    requires { Fits algorithm.now (key_of key.now) signed.now.octets.now signature.now }
+    requires { Fits algorithm.now (key_of key.now) text.octets.now signature.now }
     ensures { OnOk result (out.new.items ≡ out.old.items
-        ++ question_octets algorithm.now (key_of key.now) signed.now.octets.now signature.now) }
+        ++ question_octets algorithm.now (key_of key.now) text.entry.is_hash
+        text.entry.octets.now signature.now) }
 {
     push_blob32(out, algorithm)?;
     push_blob32(out, key.algorithm)?;
     push_parameters(out, key.parameters)?;
     push_blob32(out, key.octets)?;
     push_blob32(out, signature)?;
-    push_blob32(out, signed.octets)
+    push_text(out, text)
 }
 
-/// The octets of a question. `None` where there are too many, and where memory is refused.
-fn octets_of(
+/// The octets under which the answer to a question is kept. `None` where there are too many, and
+/// where memory is refused.
+fn question_of(
     alloc: Global,
     algorithm: &[u8],
     key: &WorkingKey<'_>,
     signed: &Message<'_>,
     signature: &[u8],
-) -> Option<Vec<u8>>
-    ensures fits { IsSome result
-        → Fits algorithm.now (key_of key.now) signed.now.octets.now signature.now }
-    ensures octets { IfSome result (λ octets. octets.items
-        ≡ question_octets algorithm.now (key_of key.now) signed.now.octets.now signature.now) }
+) -> Option<Key>
+    ensures { IfSome result (λ question. Asks question algorithm.now (key_of key.now)
+        signed.now.octets.now signature.now) }
 {
-    let size = size_of(algorithm, key, signed, signature);
+    let text = text_of(algorithm, signed);
+    let size = size_of(algorithm, key, text, signature);
     if size > MAX_OCTETS {
         return None;
     }
     let mut octets = Vec::with_capacity(alloc, size + ROOM).ok()?;
-    push_question(&mut octets, algorithm, key, signed, signature).ok()?;
-    Some(octets)
+    push_question(&mut octets, algorithm, key, text, signature).ok()?;
+    Some(Key::of(octets))
 }
 
 impl Memo {
     /// A memo that keeps no answers yet.
-    pub(crate) fn new(alloc: Global) -> Result<Memo, AllocError> {
-        let Some(most) = NonZeroUsize::new(MAX_ANSWERS) else {
-            return Err(AllocError);
-        };
-        let answers = LruCache::sparse(alloc, most)?;
-        Ok(Memo { alloc, answers })
+    pub(crate) fn new(alloc: Global) -> Memo {
+        Memo {
+            alloc,
+            answers: Recent::new(alloc, MAX_ANSWERS),
+        }
     }
 
-    /// The answer to the question that has these octets, if it is kept; it then is the one that was
-    /// used last.
-    fn find(&mut self, signature: &[u8], octets: &[u8]) -> Option<bool>
-        ensures { IfSome result (λ good. IsRight octets.now good) }
+    /// The answer to this question, if it is kept; it then is the one that was used last.
+    fn find(&mut self, question: &Key) -> Option<bool>
+        ensures { IfSome result (λ good. IsRight question.now good) }
     {
-        let kept = self.answers.peek(signature)?;
-        if kept.octets.as_slice() != octets {
+        let Some(good) = self.answers.find(question) else {
             return None;
-        }
-        let good = kept.good;
-        let _is_there = self.answers.promote(signature);
+        };
+        let good = *good;
+        self.answers.touch(question);
         Some(good)
     }
 
     /// Keeps an answer, where memory is given.
-    fn keep(&mut self, signature: &[u8], octets: Vec<u8>, good: bool)
-        requires { IsRight octets.items good }
+    fn keep(&mut self, question: Key, good: bool)
+        requires { IsRight question good }
     {
-        let Ok(signature) = Vec::from_slice(self.alloc, signature) else {
-            return;
-        };
-        let _before = self.answers.put(signature, KeptAnswer { octets, good });
+        self.answers.keep(question, good);
     }
 
     /// Whether a signature is good: the answer that is kept, or else that of the native check.
@@ -174,14 +200,14 @@ impl Memo {
         ensures { result ≡ native_accepts algorithm.now (key_of key.now) signed.now.octets.now
             signature.now }
     {
-        let Some(octets) = octets_of(self.alloc, algorithm, key, signed, signature) else {
+        let Some(question) = question_of(self.alloc, algorithm, key, signed, signature) else {
             return NativeCheck.good(algorithm, key, signed, signature);
         };
-        if let Some(good) = self.find(signature, &octets) {
+        if let Some(good) = self.find(&question) {
             return good;
         }
         let good = NativeCheck.good(algorithm, key, signed, signature);
-        self.keep(signature, octets, good);
+        self.keep(question, good);
         good
     }
 }

@@ -11,6 +11,7 @@ pub mod Counting
 pub mod Generals
 pub mod Subtrees
 pub mod NameParts
+pub mod SameOctets
 pub mod NameJudging
 pub mod Domains
 pub mod CanonOrder

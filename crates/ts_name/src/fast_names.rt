@@ -8,7 +8,9 @@ ghost use Rattle.ts_der.specs.Element.{Fits};
 ghost use Rattle.ts_der.specs.Text.{is_ascii};
 ghost use Rattle.ts_name.specs.Canon.{Attr};
 ghost use Rattle.ts_name.specs.NameEncoding.{IsRdn, IsName, rdn_content, encoded_rdn};
+ghost use Rattle.ts_name.specs.NameView.{rdns_in};
 
+use crate::name::Name;
 use crate::name_reading::check_rdns;
 use ts_der::tag::{OBJECT_IDENTIFIER, SEQUENCE, SET};
 use ts_der::{Reader, are_ascii};
@@ -88,4 +90,13 @@ pub fn is_name(content: &[u8]) -> bool
     ensures { IsTrue result ↔ (rdns : List (List Attr)) × IsName content.now rdns }
 {
     are_short_rdns(content) || is_other_name(content)
+}
+
+/// Whether two names have one encoding, as those of an issuer in its own certificate and in another
+/// mostly have, and so the same attributes.
+#[inline(always)]
+pub(crate) fn have_one_encoding(first: Name<'_>, second: Name<'_>) -> bool
+    ensures { result ≡ true → rdns_in first.entry ≡ rdns_in second.entry }
+{
+    first.element.content == second.element.content
 }

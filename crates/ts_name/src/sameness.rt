@@ -7,6 +7,7 @@ ghost use Rattle.ts_name.specs.NameView.{rdns_in, attributes_in};
 ghost use Rattle.ts_name.specs.View.{attr_of};
 
 use crate::attribute::Attribute;
+use crate::fast_names::have_one_encoding;
 use crate::name::Name;
 use crate::name_items::Rdns;
 use crate::ordering::{are_one, gather_sorted};
@@ -115,6 +116,7 @@ impl Rdn<'_> {
             return true;
         }
         let one = match size(self).max(size(other)) {
+            ..=1 => return are_one_by_counts(self, other),
             ..=FEW => are_one_by_tables::<FEW>(self, other),
             ..=MANY => are_one_by_tables::<MANY>(self, other),
             _ => are_one_by_tables::<ALL>(self, other),
@@ -147,6 +149,9 @@ impl Name<'_> {
         ensures { IsTrue result ↔ (canon_name (rdns_in self.entry)
             ≡ canon_name (rdns_in other.entry)) }
     {
+        if have_one_encoding(self, other) {
+            return true;
+        }
         match behind(self.rdns(), other.rdns()) {
             Some(mut rest) => rest.next().is_none(),
             None => false,

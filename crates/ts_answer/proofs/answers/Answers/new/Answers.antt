@@ -1,5 +1,4 @@
-use Rattle.std.proofs.Common.{sym, subst, List, ℕ}
-use Rattle.lru.specs.LruCache.{LruCache}
+use Rattle.std.proofs.Common.{sym, subst}
 use Rattle.ts_answer.specs.inside.Cache.{AreCached}
 use Rattle.ts_answer.proofs.Cached.{none_cached}
 use Rattle.ts_answer.proofs.Entries.{no_entries}
@@ -9,8 +8,7 @@ use Rattle.ts_answer.proofs.answers.Answers.new.Goals as goal
 pub invariant_of-result : goal.invariant_of-result
 invariant_of-result g c =
     let good = g.S.SignatureCheck.accepts c.args.check in (
-      subst (λ (x : LruCache (List ℕ) (List ℕ)). AreCached good c.new.result x.entries)
-          (sym c.new-3.ensures) (none_cached good c.new.result),
+      subst (AreCached good c.new.result) (sym c.new-3.ensures) (none_cached good c.new.result),
       no_entries c.new.result
           c.new-2.result.items c.new.ensures c.new-2.ensures.items,
       none_taken c.new.result

@@ -12,7 +12,7 @@ invariant_of-self-2 g c =
     let good = g.S.SignatureCheck.accepts inside.check in
     let entries = c.in-Ok.ensures.items ∙ ap (λ l. l ++ c.of.result ∷ []) c.reserve.ensures.items in (
       pushed good c.push.result inside.history c.push.new.self c.args.command.now
-          inside.cache.entries c.push.ensures.pushed c.push.ensures.refused c.self.invariant.0,
+          inside.cache c.push.ensures.pushed c.push.ensures.refused c.self.invariant.0,
       one_more
           inside.history c.push.new.self c.args.command.now inside.log.items c.push-2.new.self.items
           c.of.result c.in_ok-outcome.outcome c.self.invariant.1 c.in_ok-outcome.ensures.pushed entries

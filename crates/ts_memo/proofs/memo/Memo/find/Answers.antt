@@ -1,11 +1,10 @@
-use Rattle.std.specs.Str.{bytes_eq}
-use Rattle.ts_memo.proofs.Rights.{found, used}
+use Rattle.ts_memo.proofs.Rights.{found_right, fewer_right}
 use Rattle.ts_memo.proofs.memo.Memo.find.Goals as goal
 
 pub invariant_of-self : goal.invariant_of-self
-invariant_of-self c = used (λ v. bytes_eq c.args.signature.now v.items) c.self.inside.answers c.promote-is_there.new.self c.promote-is_there.ensures.entries c.self.invariant
+invariant_of-self c = fewer_right c.touch.new.self c.self.inside.answers c.touch.ensures
+    c.self.invariant
 
 pub returns : goal.returns
-returns c = found (λ v. bytes_eq c.args.signature.now v.items) c.self.inside.answers.entries
-    c.in_ok-kept.kept.now c.args.octets.now c.as_slice.result.now c.self.invariant
-    c.in_ok-kept.ensures c.as_slice.ensures.value c.if-ne.ensures
+returns c = found_right c.self.inside.answers c.args.question.now c.in-Some.good.now
+    c.self.invariant c.in-Some.ensures
