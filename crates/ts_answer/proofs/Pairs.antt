@@ -34,3 +34,10 @@ one_more new old v key octets view among pair has =
       | inl was ↦ inl (subst (Contains v) one.2 (is_seen old v one.0.0 one.0.1 view was))
       | inr same ↦ inr (sym one.2 ∙ ap octets_in same)
     ]
+
+-- the octets of a pair, by what they are
+pub seen_as : (new : List (List ℕ × Octets)) (v : List (List ℕ × List ℕ)) (key octets encoding : List ℕ)
+    → octets ≡ encoding → AreAmongOr (key, octets) (map octets_in new) v
+    → AreAmongOr (key, encoding) (map octets_in new) v
+seen_as new v key octets encoding is among =
+    subst (λ (o : List ℕ). AreAmongOr (key, o) (map octets_in new) v) is among

@@ -13,6 +13,8 @@
 //! What is proved of each call:
 //!
 //! - [`NativeCheck`]'s `good`: the answer is `native_accepts` of the four values (`specs/Native`).
+//! - [`hash_named`]: the function by which an algorithm hashes what is signed; law
+//!   [`laws::one_hash_has_one_answer`]: signed octets with one hash have the same good signatures.
 //! - law [`laws::accepts_signatures`]: that test is true exactly where the identifier names an
 //!   algorithm and the signature is one by it: `IsNativeSignature`, by the relations of `ts_rsa`,
 //!   `ts_ecdsa` and `ts_eddsa`.

@@ -21,3 +21,4 @@ pub mod UriPoints
 pub mod FastItems
 pub mod ValidLists
 pub mod OneExtension
+pub mod FastFind

@@ -18,6 +18,7 @@ ghost use Rattle.ts_ext.specs.Table.{list_rules};
 ghost use Rattle.ts_ext.specs.ValueRules.{value_fault, values_fault, AreValid};
 
 use crate::extension::Extension;
+use crate::fast_find::pass_another;
 use crate::known::{Holder, Known};
 use ts_der::{Element, Fault};
 use ts_shape::{CertFault, SequenceItems, SequenceOf, first_repeated};
@@ -75,7 +76,12 @@ impl<'a> Extensions<'a> {
             ≡ find (λ x. bytes_eq x.extnID (identifier_of known)) (all_located_in self.entry) }
     {
         let wanted = [0x55, 0x1D, known.arc()];
-        for extension in self.iter() {
+        let mut items = self.iter();
+        while !items.rest.is_at_end() {
+            if pass_another(&mut items.rest, known.arc()) {
+                continue;
+            }
+            let extension = items.next()?;
             if extension.id.content == wanted.as_slice() {
                 return Some(extension);
             }

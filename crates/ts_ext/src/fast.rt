@@ -116,7 +116,7 @@ fn behind_critical(fields: &[u8]) -> &[u8]
 /// The last arc of an extension under 2.5.29, and its value, where each of its lengths has one
 /// octet. `None` decides nothing.
 #[inline(always)]
-fn short_parts(content: &[u8]) -> Option<(u8, &[u8])>
+pub(crate) fn short_parts(content: &[u8]) -> Option<(u8, &[u8])>
     ensures { IfSome result (λ parts. (critical : Bool)
         × IsExtension content.now (record
         { extnID = 0x55 ∷ 0x1D ∷ parts.0 ∷ []; critical = critical; extnValue = parts.1.now })) }

@@ -95,6 +95,7 @@ mod extension;
 mod extensions;
 mod fast;
 mod fast_extension;
+mod fast_find;
 mod fast_list;
 mod fast_points;
 mod fields;

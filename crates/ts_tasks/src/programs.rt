@@ -79,16 +79,10 @@ fn check_of<R: Files + Eprint>(
         return Ok(ServedCheck::StandIn);
     }
     let Some(path) = &words.table else {
-        return Ok(ServedCheck::Native(MemoCheck::new(alloc)?));
+        return Ok(ServedCheck::Native(MemoCheck::new(alloc)));
     };
     let table = table_of(rt, alloc, path.as_str())?;
-    match MemoCheck::new(alloc) {
-        Ok(native) => Ok(ServedCheck::NativeOrTable(native, table)),
-        Err(error) => {
-            drop(table);
-            Err(TaskFault::from(error))
-        }
-    }
+    Ok(ServedCheck::NativeOrTable(MemoCheck::new(alloc), table))
 }
 
 /// How many connections stand for no end.
