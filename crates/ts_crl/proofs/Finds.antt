@@ -17,7 +17,7 @@ none-any {A} test (x ∷ xs) e = by_test (none-any test xs) (test x) e
     by_test more true e = absurd cc
     by_test more false e = more e
 
-any-none : {A : Type 0} (test : A → Bool) (xs : List A) → list_any test xs ≡ false → find test xs ≡ None
+pub any-none : {A : Type 0} (test : A → Bool) (xs : List A) → list_any test xs ≡ false → find test xs ≡ None
 any-none test [] e = refl
 any-none {A} test (x ∷ xs) e = by_test (any-none test xs) (test x) e
   where

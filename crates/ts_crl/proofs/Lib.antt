@@ -6,6 +6,8 @@ pub mod Joining
 pub mod ListParts
 pub mod Finds
 pub mod Marked
+mod Ends
+mod Checking
 pub mod ValueParts
 pub mod Readiness
 pub mod Keeping

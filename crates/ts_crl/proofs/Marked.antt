@@ -58,7 +58,7 @@ tagged-marked e x read = by_tag (eqb e.tag 0x30) _ read
 
 -- ---- all of them
 
-abbrev Marked : List LocatedEntry → List Mark → Type 0
+abbrev pub Marked : List LocatedEntry → List Mark → Type 0
 Marked [] [] = Unit {0}
 Marked (x ∷ xs) (m ∷ ms) = (located_entry_of m.entry ≡ Ok x) × (m.userCertificate ≡ x.userCertificate) × Marked xs ms
 Marked [] (m ∷ ms) = ⊥
@@ -123,12 +123,12 @@ find-marked s (x ∷ xs) (m ∷ ms) are = by_test (find-marked s xs ms are.2) (b
         further None n = rw t n
         further (Some m) f = (f.0, f.1, rw t f.2)
 
-pub first-marked : (e : Tlv) (s : List ℕ) → None ≡ refusal (revoked_of e) → Found s (items_at located_entry_of (inside e)) (find (λ m. bytes_eq m.userCertificate s) (items_at mark_of (inside e)))
+pub are-marked : (e : Tlv) → None ≡ refusal (revoked_of e) → Marked (items_at located_entry_of (inside e)) (items_at mark_of (inside e))
 unfolding many items_at
-first-marked e s ok = find-marked s (items_at located_entry_of (inside e))
-    (items_at mark_of (inside e))
-    (all-marked (length e.content) (inside e) (items_at located_entry_of (inside e))
-    (many-walked located_entry_of (inside e) ok))
+are-marked e ok = all-marked (length e.content) (inside e) (items_at located_entry_of (inside e)) (many-walked located_entry_of (inside e) ok)
+
+pub first-marked : (e : Tlv) (s : List ℕ) → None ≡ refusal (revoked_of e) → Found s (items_at located_entry_of (inside e)) (find (λ m. bytes_eq m.userCertificate s) (items_at mark_of (inside e)))
+first-marked e s ok = find-marked s (items_at located_entry_of (inside e)) (items_at mark_of (inside e)) (are-marked e ok)
 
 -- ---- and it is read once more
 

@@ -1,3 +1,4 @@
+pub mod Endings
 pub mod Findings
 pub mod Kept
 pub mod MarkView

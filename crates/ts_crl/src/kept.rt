@@ -60,7 +60,11 @@ fn next_revoked_if_any<'a>(
                 old_version: first,
                 ..Findings::none()
             };
-            Ok(Some(RevokedEntries { element, findings }))
+            Ok(Some(RevokedEntries {
+                element,
+                findings,
+                endings: None,
+            }))
         }
         None => Ok(None),
     }

@@ -51,6 +51,7 @@
 #![tactic(auto)]
 
 mod crl;
+mod endings;
 mod entries;
 mod entry;
 mod extension_list;

@@ -1,12 +1,14 @@
 //! A CRL that is kept.
 
-ghost use Rattle.std.specs.Prelude.{◌≡◌, ◌⊎◌, ℕ, List, Some, None, Ok, Err, option_map, IfErr};
+ghost use Rattle.std.specs.Prelude.{◌≡◌, ◌⊎◌, ℕ, List, [], Some, None, Ok, Err, option_map, unwrap_or, IfErr};
 ghost use Rattle.std.specs.Prelude.{IsErrAnd};
 ghost use Rattle.ts_crl.specs.Fault.{ListFault};
 ghost use Rattle.ts_crl.specs.Kept.{kept_text, unreadable_in, RefusedFor};
 ghost use Rattle.ts_crl.specs.inside.Kept.{first_place, WasRead};
 ghost use Rattle.ts_crl.specs.inside.Kept.{Checks};
-ghost use Rattle.ts_crl.specs.EntryView.{revoked_in};
+ghost use Rattle.ts_crl.specs.Entries.{entries_of};
+ghost use Rattle.ts_crl.specs.EntryView.{entries_in, revoked_in};
+ghost use Rattle.ts_crl.specs.inside.Endings.{AreListed};
 ghost use Rattle.ts_crl.specs.ListView.{crl_in, located_list_in};
 ghost use Rattle.ts_digest.specs.Message.{IsDigestOf};
 ghost use Rattle.ts_crl.specs.OwnedView.{list_of};
@@ -15,8 +17,11 @@ ghost use Rattle.ts_crl.specs.Table.{crl_fault, crl_of};
 ghost use Rattle.ts_crl.specs.declared.owned.OwnedCrlFault.TheVariants.{Memory};
 
 use crate::crl::{Crl, broken_rule};
+use crate::endings::Endings;
+use crate::entries::endings_of;
 use crate::fault::CrlFault;
 use crate::kept::list_in;
+use crate::revoked::RevokedEntries;
 use crate::shape::read_shape;
 use std::alloc::{AllocError, Global};
 use std::error::Error;
@@ -66,12 +71,16 @@ pub struct OwnedCrl {
     first: Option<CertFault>,
     /// The hash of what is signed of it.
     digest: Digest,
+    /// The ends of the serial numbers of its entries.
+    endings: Endings,
 }
 
 impl Model for OwnedCrl {
     ghost use Rattle.std.specs.Prelude.{List, ℕ};
     ghost use Rattle.ts_digest.specs.Message.{IsDigestOf};
     ghost use Rattle.ts_crl.specs.OwnedView.{list_of};
+    ghost use Rattle.ts_crl.specs.Entries.{entries_of};
+    ghost use Rattle.ts_crl.specs.inside.Endings.{AreListed};
     ghost use Rattle.ts_crl.specs.inside.Kept.{WasRead};
 
     ghost Value = { List ℕ };
@@ -79,7 +88,8 @@ impl Model for OwnedCrl {
     ghost view = { λ crl. crl.octets };
 
     ghost invariant = { λ crl. WasRead crl.first crl.octets
-        × IsDigestOf crl.digest (list_of crl.octets).tbs };
+        × IsDigestOf crl.digest (list_of crl.octets).tbs
+        × AreListed crl.endings.sorted.items (entries_of (list_of crl.octets)) };
 }
 
 /// Where the first extensions of the entries of a CRL are.
@@ -97,6 +107,7 @@ fn first_extensions<'a>(crl: &Crl<'a>) -> Option<CertFault>
 struct CheckedParts {
     first: Option<CertFault>,
     digest: Digest,
+    endings: Endings,
 }
 
 /// The hash of what is signed of a CRL, by the function that its signature is likely to use.
@@ -111,30 +122,54 @@ fn digest_of(crl: &Crl<'_>) -> Digest
 
 /// Checks octets, and gives what has to be known of a CRL so that `view` need not read it again.
 #[tactic(auto, unfolding(crate::specs::Table::crl_of))]
-fn check<'a>(octets: &'a [u8]) -> Result<CheckedParts, CrlFault<'a>>
+fn check<'a>(alloc: Global, octets: &'a [u8]) -> Result<CheckedParts, OwnedCrlFault<'a>>
     ensures { Checks octets.now result }
 {
-    let crl = read_shape(octets)?;
-    match broken_rule(&crl) {
-        Some(fault) => Err(fault),
-        None => Ok(CheckedParts {
-            first: first_extensions(&crl),
-            digest: digest_of(&crl),
-        }),
+    let crl = match read_shape(octets) {
+        Ok(crl) => crl,
+        Err(fault) => return Err(OwnedCrlFault::Unreadable(CrlFault::Broken(fault))),
+    };
+    if let Some(fault) = broken_rule(&crl) {
+        return Err(OwnedCrlFault::Unreadable(fault));
     }
+    Ok(CheckedParts {
+        first: first_extensions(&crl),
+        digest: digest_of(&crl),
+        endings: endings_of(alloc, crl.revoked)?,
+    })
 }
 
 /// Checks shared octets, and gives what has to be known of a CRL so that `view` need not read it
 /// again.
-fn check_shared(octets: &Octets) -> Result<CheckedParts, CrlFault<'_>>
+fn check_shared(alloc: Global, octets: &Octets) -> Result<CheckedParts, OwnedCrlFault<'_>>
     ensures { Checks octets.now result }
 {
-    check(octets.as_slice())
+    check(alloc, octets.as_slice())
 }
 
-/// A borrowed CRL, with the hash of the octets that are signed in it.
-fn with_digest<'a>(crl: Crl<'a>, digest: &'a Digest) -> Crl<'a>
-    requires { IsDigestOf digest.now (crl_in crl).tbs }
+/// Entries, with the ends of their serial numbers.
+fn with_endings<'a>(
+    revoked: Option<RevokedEntries<'a>>,
+    endings: &'a Endings,
+) -> Option<RevokedEntries<'a>>
+    requires { AreListed endings.now.sorted.items (unwrap_or (option_map entries_in revoked) []) }
+    ensures { option_map revoked_in result ≡ option_map revoked_in revoked.entry }
+{
+    match revoked {
+        Some(revoked) => Some(RevokedEntries {
+            element: revoked.element,
+            findings: revoked.findings,
+            endings: Some(endings),
+        }),
+        None => None,
+    }
+}
+
+/// A borrowed CRL, with the hash of the octets that are signed in it, and with the ends of the serial
+/// numbers of its entries.
+fn with_kept<'a>(crl: Crl<'a>, digest: &'a Digest, endings: &'a Endings) -> Crl<'a>
+    requires digest { IsDigestOf digest.now (crl_in crl).tbs }
+    requires endings { AreListed endings.now.sorted.items (entries_of (crl_in crl)) }
     ensures { located_list_in result ≡ located_list_in crl.entry }
 {
     Crl {
@@ -144,7 +179,7 @@ fn with_digest<'a>(crl: Crl<'a>, digest: &'a Digest) -> Crl<'a>
         issuer: crl.issuer,
         this_update: crl.this_update,
         next_update: crl.next_update,
-        revoked: crl.revoked,
+        revoked: with_endings(crl.revoked, endings),
         extensions: crl.extensions,
         signature_algorithm: crl.signature_algorithm,
         signature_value: crl.signature_value,
@@ -166,15 +201,13 @@ impl OwnedCrl {
             → IsErrAnd result (λ e. unreadable_in e ≡ Some f) }
         ensures exact { IfErr result (λ e. RefusedFor octets.now e) }
     {
-        let CheckedParts { first, digest } = match check(octets) {
-            Ok(checked) => checked,
-            Err(fault) => return Err(OwnedCrlFault::Unreadable(fault)),
-        };
+        let checked = check(alloc, octets)?;
         let octets = Octets::copy_of(alloc, octets)?;
         Ok(OwnedCrl {
             octets,
-            first,
-            digest,
+            first: checked.first,
+            digest: checked.digest,
+            endings: checked.endings,
         })
     }
 
@@ -182,23 +215,21 @@ impl OwnedCrl {
     ///
     /// # Errors
     ///
-    /// As [`OwnedCrl::read`]; `Memory` only where as many owners share them as can be counted.
-    pub fn of<'a>(octets: &'a Octets) -> Result<OwnedCrl, OwnedCrlFault<'a>>
+    /// As [`OwnedCrl::read`].
+    pub fn of<'a>(alloc: Global, octets: &'a Octets) -> Result<OwnedCrl, OwnedCrlFault<'a>>
         ensures kept { crl_fault octets.now ≡ None
             → (result ≡ Ok octets.now) ⊎ (result ≡ Err Memory) }
         ensures refused { (f : ListFault) → crl_fault octets.now ≡ Some f
             → IsErrAnd result (λ e. unreadable_in e ≡ Some f) }
         ensures exact { IfErr result (λ e. RefusedFor octets.now e) }
     {
-        let CheckedParts { first, digest } = match check_shared(octets) {
-            Ok(checked) => checked,
-            Err(fault) => return Err(OwnedCrlFault::Unreadable(fault)),
-        };
+        let checked = check_shared(alloc, octets)?;
         let octets = octets.share()?;
         Ok(OwnedCrl {
             octets,
-            first,
-            digest,
+            first: checked.first,
+            digest: checked.digest,
+            endings: checked.endings,
         })
     }
 
@@ -210,7 +241,7 @@ impl OwnedCrl {
         ensures same { crl_in result ≡ list_of self.now }
     {
         match list_in(self.octets.as_slice(), self.first) {
-            Ok(crl) => with_digest(crl, &self.digest),
+            Ok(crl) => with_kept(crl, &self.digest, &self.endings),
             Err(_) => unreachable!(),
         }
     }

@@ -104,7 +104,7 @@ fn crl_taken(
         → apply_change taken.change taken.kept (contents_of tables.now) ≡ contents_of new) }
 {
     let octets = crl.octets();
-    match OwnedCrl::of(octets) {
+    match OwnedCrl::of(alloc, octets) {
         Ok(crl) => {
             let change = crl_change(alloc, tables, crl.view())?;
             let crl = StoredCrl {

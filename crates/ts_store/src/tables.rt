@@ -110,7 +110,7 @@ impl Tables {
             (load_crl octets.now self.old)) }
         ensures memory { OnErr result (self.new ≡ self.old) }
     {
-        let crl = match OwnedCrl::of(octets) {
+        let crl = match OwnedCrl::of(alloc, octets) {
             Ok(crl) => crl,
             Err(OwnedCrlFault::Memory) => return Err(AllocError),
             Err(OwnedCrlFault::Unreadable(fault)) => return Ok(Some(refusal(fault))),

@@ -6,14 +6,17 @@ use Rattle.ts_shape.specs.declared.fault.CertFault.{CertFault}
 use Rattle.ts_shape.specs.Fields.{optional_of}
 use Rattle.ts_crl.specs.declared.extension_rule.ExtensionRule.TheVariants.{OldVersion}
 use Rattle.ts_digest.specs.Message.{IsDigestOf}
-use Rattle.ts_crl.specs.declared.fault.CrlFault.{CrlFault}
 use Rattle.ts_crl.specs.declared.owned.CheckedParts.{CheckedParts}
+use Rattle.ts_crl.specs.declared.owned.OwnedCrlFault.{OwnedCrlFault}
+use Rattle.ts_crl.specs.declared.owned.OwnedCrlFault.TheVariants.{Memory, Unreadable}
+use Rattle.ts_crl.specs.Entries.{entries_of}
+use Rattle.ts_crl.specs.inside.Endings.{AreListed}
 use Rattle.ts_crl.specs.Fault.{fault_in}
 use Rattle.ts_crl.specs.Findings.{Findings, findings_of}
 use Rattle.ts_crl.specs.List.{LocatedEntry, LocatedTbsList, LocatedList}
 use Rattle.ts_crl.specs.OwnedView.{list_of}
 use Rattle.ts_crl.specs.Reading.{revoked_of, crl_tbs_of, crl_signed_of, shape_of}
-use Rattle.ts_crl.specs.Table.{list_fault, crl_of}
+use Rattle.ts_crl.specs.Table.{crl_fault, list_fault, crl_of}
 use Rattle.ts_crl.specs.Rules.{entries_fault}
 
 -- where the first extensions of entries are
@@ -58,8 +61,11 @@ pub record WasRead (first : Option CertFault) (octets : List ℕ) : Type 0 where
   pub unbroken : list_fault list ≡ None
   pub entries : HavePlace first list.tbsCertList.revokedCertificates
 
--- a call answered what has to be known of octets that are a list, or the first rule that they break
-abbrev pub Checks : List ℕ → Result CheckedParts CrlFault → Type 0
+-- a call answered what has to be known of octets that are a list, or the first rule that they
+-- break, or memory ran out for a list
+abbrev pub Checks : List ℕ → Result CheckedParts OwnedCrlFault → Type 0
 Checks octets (Ok checked) = WasRead checked.first octets
     × IsDigestOf checked.digest (list_of octets).tbs
-Checks octets (Err fault) = crl_of octets ≡ Err (fault_in fault)
+    × AreListed checked.endings.sorted.items (entries_of (list_of octets))
+Checks octets (Err Memory) = crl_fault octets ≡ None
+Checks octets (Err (Unreadable fault)) = crl_of octets ≡ Err (fault_in fault)

@@ -1,16 +1,16 @@
 use Rattle.std.proofs.Common.{sym, ◌∙◌}
-use Rattle.ts_crl.specs.Fault.{fault_in}
-use Rattle.ts_crl.proofs.Lending.{unfaulted, faulted, none-some}
+use Rattle.ts_crl.proofs.Checking.{not-kept, refused}
+use Rattle.ts_crl.proofs.Lending.{unfaulted, none-some}
 use Rattle.ts_crl.proofs.owned.OwnedCrl.read.Goals as goal
 
-pub returns-in-Err-clause-kept : goal.returns-in-Err-clause-kept
-returns-in-Err-clause-kept c none = absurd (none-some (fault_in c.in-Err.fault) (sym none ∙ faulted c.args.octets.now (fault_in c.in-Err.fault) c.in-Err.ensures))
+pub returns-in_err-checked-clause-kept : goal.returns-in_err-checked-clause-kept
+returns-in_err-checked-clause-kept c = not-kept c.args.octets.now c.in_err-checked.field-0.0 c.from_residual.result c.in_err-checked.ensures c.from_residual.ensures.1
 
-pub returns-in-Err-clause-refused : goal.returns-in-Err-clause-refused
-returns-in-Err-clause-refused c f some = sym (faulted c.args.octets.now (fault_in c.in-Err.fault) c.in-Err.ensures) ∙ some
+pub returns-in_err-checked-clause-refused : goal.returns-in_err-checked-clause-refused
+returns-in_err-checked-clause-refused c = refused c.args.octets.now c.in_err-checked.field-0.0 c.from_residual.result c.in_err-checked.ensures c.from_residual.ensures.1
 
 pub returns-in_err-octets-clause-refused : goal.returns-in_err-octets-clause-refused
-returns-in_err-octets-clause-refused c f some = absurd (none-some f (sym (unfaulted c.in-Ok.checked.first c.args.octets.now c.in-Ok.ensures.0) ∙ some))
+returns-in_err-octets-clause-refused c f some = absurd (none-some f (sym (unfaulted c.in_ok-checked.checked.first c.args.octets.now c.in_ok-checked.ensures.0) ∙ some))
 
 pub returns-clause-refused : goal.returns-clause-refused
-returns-clause-refused c f some = none-some f (sym (unfaulted c.in-Ok.checked.first c.args.octets.now c.in-Ok.ensures.0) ∙ some)
+returns-clause-refused c f some = none-some f (sym (unfaulted c.in_ok-checked.checked.first c.args.octets.now c.in_ok-checked.ensures.0) ∙ some)

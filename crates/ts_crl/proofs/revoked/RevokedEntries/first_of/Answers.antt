@@ -4,10 +4,12 @@ use Rattle.ts_der.specs.Element.{inside}
 use Rattle.ts_der.specs.View.{now}
 use Rattle.ts_shape.specs.Items.{items_at}
 use Rattle.ts_crl.specs.declared.mark.Mark.{Mark as Lent}
-use Rattle.ts_crl.specs.EntryView.{entry_in as said_in}
+use Rattle.ts_crl.specs.Entries.{has_serial}
+use Rattle.ts_crl.specs.EntryView.{entry_in as said_in, entries_in}
 use Rattle.ts_crl.specs.inside.Marks.{Mark}
 use Rattle.ts_crl.specs.inside.MarkView.{mark_as}
 use Rattle.ts_crl.specs.Reading.{located_entry_of}
+use Rattle.ts_crl.proofs.Finds.{any-none}
 use Rattle.ts_crl.proofs.Marked.{Found, first-marked, read-again}
 use Rattle.ts_crl.proofs.revoked.RevokedEntries.first_of.Goals as goal
 
@@ -27,3 +29,6 @@ returns-in-None c =
     sym (subst (λ (o : Option Mark). Found s xs o)
     (sym c.mark_of.ensures ∙ ap (λ (o : Option Lent). option_map mark_as o) c.in-None.is)
     (first-marked (now c.args.self.element) s (sym c.args.self.read)))
+
+pub returns-then-lacks : goal.returns-then-lacks
+returns-then-lacks c = sym (any-none (has_serial c.args.serial.octets.now) (entries_in c.args.self) (c.lacks.ensures c.if-lacks.true))
