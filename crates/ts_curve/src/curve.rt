@@ -67,8 +67,8 @@ pub fn is_on_curve<C: DomainParameters>(x: &Residue<C::Prime>, y: &Residue<C::Pr
     let three = Residue::from_limbs(&C::Limbs::small(3));
     let a = Residue::zero().difference(&three);
     let b = Residue::from_limbs(&C::b());
-    let left = second.product(&second);
-    let square = first.product(&first);
+    let left = second.square();
+    let square = first.square();
     let cube = first.product(&square);
     let line = a.product(&first);
     let sum = cube.sum(&line);

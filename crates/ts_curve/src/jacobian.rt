@@ -17,8 +17,8 @@ pub fn double<M: Modulus>(
         ≡ jacobian_double M.prime (x.now, y.now, z.now) }
     ensures below { (result.0 < M.prime) × (result.1 < M.prime) × (result.2 < M.prime) }
 {
-    let delta = z.product(z);
-    let gamma = y.product(y);
+    let delta = z.square();
+    let gamma = y.square();
     let beta = x.product(&gamma);
     let left = x.difference(&delta);
     let right = x.sum(&delta);
@@ -28,11 +28,11 @@ pub fn double<M: Modulus>(
     let beta2 = beta.sum(&beta);
     let beta4 = beta2.sum(&beta2);
     let beta8 = beta4.sum(&beta4);
-    let square = alpha.product(&alpha);
-    let x3 = square.difference(&beta8);
+    let alpha2 = alpha.square();
+    let x3 = alpha2.difference(&beta8);
     let yz = y.product(z);
     let z3 = yz.sum(&yz);
-    let gg = gamma.product(&gamma);
+    let gg = gamma.square();
     let gg2 = gg.sum(&gg);
     let gg4 = gg2.sum(&gg2);
     let gg8 = gg4.sum(&gg4);
@@ -70,10 +70,10 @@ fn chord<M: Modulus>(
 {
     let h = u2.difference(u1);
     let r = s2.difference(s1);
-    let hh = h.product(&h);
+    let hh = h.square();
     let hhh = h.product(&hh);
     let v = u1.product(&hh);
-    let rr = r.product(&r);
+    let rr = r.square();
     let vv = v.sum(&v);
     let left = rr.difference(&hhh);
     let x3 = left.difference(&vv);
@@ -106,7 +106,7 @@ pub fn sum<M: Modulus>(
     if w.is_equal(&origin) {
         return (x.copy(), y.copy(), z.copy());
     }
-    let zz = z.product(z);
+    let zz = z.square();
     let is_one = w.is_equal(&Residue::one());
     let ww = product_by(w, w, is_one);
     let u1 = product_by(x, &ww, is_one);

@@ -77,7 +77,7 @@ impl<M: Modulus> CurvePoint<M> {
             return None;
         }
         let inverse = self.z.inverse();
-        Some(self.x.product(&inverse.product(&inverse)))
+        Some(self.x.product(&inverse.square()))
     }
 
     /// The sum of `u` times this point and `v` times another, in one pass over the bits of both.

@@ -12,11 +12,11 @@ returns-clause-coordinates g c =
       c.sum-gg8.ensures,
       c.sum-gg4.ensures,
       c.sum-gg2.ensures,
-      c.product-gg.ensures,
+      c.square-gg.ensures,
       c.sum-z3.ensures,
       c.product-yz.ensures,
       c.difference-x3.ensures,
-      c.product-square.ensures,
+      c.square-alpha2.ensures,
       c.sum-beta8.ensures,
       c.sum-beta4.ensures,
       c.sum-beta2.ensures,
@@ -26,7 +26,7 @@ returns-clause-coordinates g c =
       c.sum-right.ensures,
       c.difference-left.ensures,
       c.product-beta.ensures,
-      c.product-gamma.ensures,
-      c.product-delta.ensures,
+      c.square-gamma.ensures,
+      c.square-delta.ensures,
     )
     refl

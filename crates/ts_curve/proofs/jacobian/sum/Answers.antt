@@ -52,7 +52,7 @@ returns-then-is_equal-4-clause-coordinates g c =
     let u : Triple = (c.args.x2.now, c.args.y2.now, c.args.w.now) in
     let e : t.2 ≢ 0 = λ k. false≢true (c.if-is_equal.ensures.1 (k ∙ sym c.zero-origin.ensures)) in
     let g : u.2 ≢ 0 = λ k. false≢true (c.if-is_equal-2.ensures.1 (k ∙ sym c.zero-origin.ensures)) in
-    let zz = c.product-zz.ensures in
+    let zz = c.square-zz.ensures in
     let ww = c.product_by-ww.ensures in
     let one : mul p t.0 (mul p u.2 u.2) ≡ c.product_by-u1.result = ap (mul p t.0) (sym ww)
     ∙ sym c.product_by-u1.ensures in
@@ -74,7 +74,7 @@ returns-then-is_equal-3-clause-coordinates g c =
     let u : Triple = (c.args.x2.now, c.args.y2.now, c.args.w.now) in
     let e : t.2 ≢ 0 = λ k. false≢true (c.if-is_equal.ensures.1 (k ∙ sym c.zero-origin.ensures)) in
     let g : u.2 ≢ 0 = λ k. false≢true (c.if-is_equal-2.ensures.1 (k ∙ sym c.zero-origin.ensures)) in
-    let zz = c.product-zz.ensures in
+    let zz = c.square-zz.ensures in
     let ww = c.product_by-ww.ensures in
     let one : mul p t.0 (mul p u.2 u.2) ≡ c.product_by-u1.result = ap (mul p t.0) (sym ww)
     ∙ sym c.product_by-u1.ensures in
@@ -98,7 +98,7 @@ returns-clause-coordinates g c =
     let u : Triple = (c.args.x2.now, c.args.y2.now, c.args.w.now) in
     let e : t.2 ≢ 0 = λ k. false≢true (c.if-is_equal.ensures.1 (k ∙ sym c.zero-origin.ensures)) in
     let g : u.2 ≢ 0 = λ k. false≢true (c.if-is_equal-2.ensures.1 (k ∙ sym c.zero-origin.ensures)) in
-    let zz = c.product-zz.ensures in
+    let zz = c.square-zz.ensures in
     let ww = c.product_by-ww.ensures in
     let one : mul p t.0 (mul p u.2 u.2) ≡ c.product_by-u1.result = ap (mul p t.0) (sym ww)
     ∙ sym c.product_by-u1.ensures in
