@@ -50,6 +50,7 @@ mod limbs;
 mod modulus;
 mod octets;
 mod p256;
+mod p256_reduction;
 mod p384;
 mod point;
 mod residue;
