@@ -52,6 +52,7 @@ mod octets;
 mod p256;
 mod p256_reduction;
 mod p384;
+mod p384_reduction;
 mod point;
 mod residue;
 mod six;
