@@ -57,7 +57,7 @@ mod point;
 mod residue;
 mod six;
 
-pub use curve::{DomainParameters, base_point, is_on_curve, scalar_of};
+pub use curve::{DomainParameters, base_point, has_scalar, is_on_curve, scalar_of};
 pub use four::Limbs4;
 pub use limbs::Limbs;
 pub use modulus::Modulus;

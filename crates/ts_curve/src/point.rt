@@ -1,6 +1,6 @@
 //! Points of a curve whose a is -3.
 
-ghost use Rattle.std.specs.Prelude.{◌≡◌, ◌-◌, ℕ, Some, None, IfSome, IfNone, true, false};
+ghost use Rattle.std.specs.Prelude.{◌≡◌, ◌-◌, ◌<◌, ◌↔◌, ℕ, IsTrue, Some, None, IfSome, IfNone, true, false};
 ghost use Rattle.ts_curve.specs.Points.{double, joint_multiple, sum, with_bits};
 
 use crate::jacobian;
@@ -78,6 +78,19 @@ impl<M: Modulus> CurvePoint<M> {
         }
         let inverse = self.z.inverse();
         Some(self.x.product(&inverse.square()))
+    }
+
+    /// Whether the point is not infinity, and its first coordinate is `x`: without a division, by a
+    /// comparison with `x` times the square of z.
+    pub fn has_x(&self, x: &Residue<M>) -> bool
+        ensures exactly { IsTrue result ↔ ((y : ℕ) × (self.now ≡ Some (x.now, y))) }
+        ensures below { (x y : ℕ) → self.now ≡ Some (x, y) → x < M.prime }
+    {
+        if self.z.is_equal(&Residue::zero()) {
+            return false;
+        }
+        let first = x.copy();
+        self.x.is_equal(&first.product(&self.z.square()))
     }
 
     /// The sum of `u` times this point and `v` times another, in one pass over the bits of both.
