@@ -109,10 +109,7 @@ fn has_scalar_and_order<C: DomainParameters>(
 
 /// Whether a point is not infinity, and its first coordinate is `r` modulo the order of the base
 /// point: it is then `r` itself, or the sum of `r` and the order.
-pub fn has_scalar<C: DomainParameters>(
-    point: &CurvePoint<C::Prime>,
-    r: &Residue<C::Order>,
-) -> bool
+pub fn has_scalar<C: DomainParameters>(point: &CurvePoint<C::Prime>, r: &Residue<C::Order>) -> bool
     ensures { IsTrue result ↔ ((x y : ℕ) × (point.now ≡ Some (x, y))
         × (x % C.curve.order ≡ r.now)) }
 {

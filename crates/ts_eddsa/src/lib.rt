@@ -31,9 +31,9 @@
 #![tactic(auto)]
 
 mod decode;
-mod field;
 pub mod laws;
 mod number;
+mod order;
 mod point;
 mod power;
 mod signature;

@@ -6,9 +6,8 @@ ghost use Rattle.ts_eddsa.specs.Points.{affine, base, neutral, completion, doubl
 ghost use Rattle.ts_eddsa.specs.inside.Addend.{addend_of, sum_by};
 ghost use Rattle.ts_eddsa.specs.Tests.{are_equal};
 
-use crate::field::Prime25519;
 use std::marker::Model;
-use ts_curve::{Limbs, Limbs4, Residue};
+use ts_curve::{Limbs, Limbs4, Prime25519, Residue};
 
 /// The coefficient d of the curve -x^2 + y^2 = 1 + d x^2 y^2.
 pub const D: Limbs4 = Limbs4 {
@@ -122,14 +121,14 @@ impl EdwardsPoint {
     pub fn double(&self) -> Self
         ensures { result ≡ double self.now }
     {
-        let a = self.x.product(&self.x);
-        let b = self.y.product(&self.y);
-        let zz = self.z.product(&self.z);
+        let a = self.x.square();
+        let b = self.y.square();
+        let zz = self.z.square();
         let h = a.sum(&b);
         let s = self.x.sum(&self.y);
         let g = a.difference(&b);
         let c = zz.sum(&zz);
-        let square = s.product(&s);
+        let square = s.square();
         let e = h.difference(&square);
         let f = c.sum(&g);
         completion(&e, &f, &g, &h)

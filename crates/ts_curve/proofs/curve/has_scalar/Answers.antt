@@ -14,8 +14,7 @@ returns-then-has_x g c =
     let x : c.from_limbs-x.result ≡ r =
     rw (c.from_limbs-x.ensures, c.to_limbs.ensures, c.copy-first.ensures.same)
     (mod-eq_of_lt (omega (arith, less, d.order_is_below, d.prime_is))) in
-    let found = c.if-has_x.ensures.exactly.0 refl in
-    (
+    let found = c.if-has_x.ensures.exactly.0 refl in (
       λ _. (r, found.0, found.1 ∙ ap (λ k. Some (k, found.0)) x, mod-eq_of_lt less),
       λ _. refl,
     )
@@ -31,8 +30,7 @@ returns g c =
     rw (c.from_limbs-x.ensures, c.to_limbs.ensures, c.copy-first.ensures.same)
     (mod-eq_of_lt (omega (arith, less, d.order_is_below, d.prime_is))) in
     let below : (x y : ℕ) → c.args.point.now ≡ Some (x, y) → x < q.prime =
-    λ x y e. (let l = c.has_x.ensures.below x y e in omega (arith, l, d.prime_is)) in
-    (
+    λ x y e. (let l = c.has_x.ensures.below x y e in omega (arith, l, d.prime_is)) in (
       λ h.
           let found = c.has_scalar_and_order.ensures.0 h in
           (r + q.order, found.1.0, found.1.1, add-mod_right r q.order ∙ mod-eq_of_lt less),

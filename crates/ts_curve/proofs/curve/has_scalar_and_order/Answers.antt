@@ -22,8 +22,7 @@ returns-then-not-is_less g c =
     rw (c.from_limbs-order.ensures, c.prime.ensures, d.order_is) (mod-eq_of_lt less) in
     let rest : c.difference-rest.result ≡ p - q.order =
     rw (c.difference-rest.ensures, c.zero.ensures, order)
-    (rest_is p q.order (omega (arith, c.copy-first.ensures.below, d.order_is)) less) in
-    (
+    (rest_is p q.order (omega (arith, c.copy-first.ensures.below, d.order_is)) less) in (
       λ h. absurd (false≢true h),
       λ h. absurd (false≢true (c.if-not-is_less.ensures.1 (rw (limbs, c.to_limbs.ensures, rest)
           (omega (arith, h.0, d.prime_is))))),
@@ -47,8 +46,7 @@ returns g c =
     let x : c.from_limbs-x.result ≡ r =
     rw (c.from_limbs-x.ensures, limbs) (mod-eq_of_lt (omega (arith, small))) in
     let sum : c.sum.result ≡ r + q.order =
-    rw (c.sum.ensures, x, order) (mod-eq_of_lt (omega (arith, small))) in
-    (
+    rw (c.sum.ensures, x, order) (mod-eq_of_lt (omega (arith, small))) in (
       λ h.
           let found = c.has_x.ensures.exactly.0 h in
           (omega (arith, small, d.prime_is), (found.0, found.1 ∙ ap (λ k. Some (k, found.0)) sum)),

@@ -26,8 +26,7 @@ returns-clause-exactly g c =
     let x = c.args.x.now in
     let nz : t.z ≢ 0 = λ k. false≢true (c.if-is_equal.ensures.1 (k ∙ sym c.zero.ensures)) in
     let same : c.product.result ≡ mul p x (mul p t.z t.z) =
-    rw (c.product.ensures, c.square.ensures, c.copy-first.ensures.same) refl in
-    (
+    rw (c.product.ensures, c.square.ensures, c.copy-first.ensures.same) refl in (
       λ h.
           let found = first_is p t.x t.y t.z x f i.0 i.2 c.copy-first.ensures.below nz
           (c.is_equal-2.ensures.0 h ∙ same) in
