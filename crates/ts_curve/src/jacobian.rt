@@ -7,7 +7,7 @@ ghost use Rattle.ts_curve.specs.Jacobian.{Triple, jacobian_double, chord_sum, ja
 use crate::modulus::Modulus;
 use crate::residue::Residue;
 
-/// The coordinates of a point's double.
+/// The coordinates of a point's double. Twice the square of y is made once, which saves two sums.
 pub fn double<M: Modulus>(
     x: &Residue<M>,
     y: &Residue<M>,
@@ -19,22 +19,20 @@ pub fn double<M: Modulus>(
 {
     let delta = z.square();
     let gamma = y.square();
-    let beta = x.product(&gamma);
+    let gamma2 = gamma.sum(&gamma);
+    let beta2 = x.product(&gamma2);
     let left = x.difference(&delta);
     let right = x.sum(&delta);
     let m = left.product(&right);
     let mm = m.sum(&m);
     let alpha = mm.sum(&m);
-    let beta2 = beta.sum(&beta);
     let beta4 = beta2.sum(&beta2);
     let beta8 = beta4.sum(&beta4);
     let alpha2 = alpha.square();
     let x3 = alpha2.difference(&beta8);
     let yz = y.product(z);
     let z3 = yz.sum(&yz);
-    let gg = gamma.square();
-    let gg2 = gg.sum(&gg);
-    let gg4 = gg2.sum(&gg2);
+    let gg4 = gamma2.square();
     let gg8 = gg4.sum(&gg4);
     let down = beta4.difference(&x3);
     let slope = alpha.product(&down);
