@@ -1,11 +1,13 @@
 //! Jacobian coordinates of points of a curve whose a is -3: the double and the sum.
 
-ghost use Rattle.std.specs.Prelude.{◌≡◌, ◌<◌, true};
+ghost use Rattle.std.specs.Prelude.{◌≡◌, ◌-◌, ◌<◌, true};
 ghost use Rattle.ts_ring.specs.Modular.{mul};
-ghost use Rattle.ts_curve.specs.Jacobian.{Triple, jacobian_double, chord_sum, jacobian_sum};
+ghost use Rattle.ts_curve.specs.Points.{sum};
+ghost use Rattle.ts_curve.specs.Jacobian.{Triple, jacobian, jacobian_double, chord_sum};
 
 use crate::modulus::Modulus;
 use crate::residue::Residue;
+use std::marker::Model;
 
 /// The coordinates of a point's double. Twice the square of y is made once, which saves two sums.
 pub fn double<M: Modulus>(
@@ -38,6 +40,50 @@ pub fn double<M: Modulus>(
     let slope = alpha.product(&down);
     let y3 = slope.difference(&gg8);
     (x3, y3, z3)
+}
+
+/// A point as it is added to others: its coordinates, the square and the cube of z, and whether z is
+/// known to be 1.
+#[derive(Drop)]
+pub struct Addend<M: Modulus> {
+    x: Residue<M>,
+    y: Residue<M>,
+    z: Residue<M>,
+    zz: Residue<M>,
+    zzz: Residue<M>,
+    is_one: bool,
+}
+
+impl<M: Modulus> Model for Addend<M> {
+    ghost use Rattle.std.specs.Prelude.{◌≡◌, ◌<◌, true};
+    ghost use Rattle.ts_ring.specs.Modular.{mul};
+    ghost use Rattle.ts_curve.specs.Points.{Point};
+    ghost use Rattle.ts_curve.specs.Jacobian.{jacobian};
+
+    ghost Value = { Point };
+
+    ghost view = { λ a. jacobian M.prime (a.x, a.y, a.z) };
+
+    ghost invariant = { λ a. (a.x < M.prime) × (a.y < M.prime) × (a.z < M.prime)
+        × (a.zz ≡ mul M.prime a.z a.z) × (a.zzz ≡ mul M.prime a.z a.zz)
+        × (a.is_one ≡ true → a.z ≡ 1) };
+}
+
+impl<M: Modulus> Addend<M> {
+    /// The point with these coordinates.
+    pub fn new(x: &Residue<M>, y: &Residue<M>, z: &Residue<M>) -> Self
+        ensures { result ≡ jacobian M.prime (x.now, y.now, z.now) }
+    {
+        let zz = z.square();
+        Addend {
+            x: x.copy(),
+            y: y.copy(),
+            z: z.copy(),
+            zzz: z.product(&zz),
+            zz,
+            is_one: z.is_equal(&Residue::one()),
+        }
+    }
 }
 
 /// The product with a factor that may be known to be 1.
@@ -89,35 +135,31 @@ pub fn sum<M: Modulus>(
     x: &Residue<M>,
     y: &Residue<M>,
     z: &Residue<M>,
-    x2: &Residue<M>,
-    y2: &Residue<M>,
-    w: &Residue<M>,
+    other: &Addend<M>,
 ) -> (Residue<M>, Residue<M>, Residue<M>)
-    ensures coordinates { (let t : Triple = (result.0, result.1, result.2) in t)
-        ≡ jacobian_sum M.prime (x.now, y.now, z.now) (x2.now, y2.now, w.now) }
+    requires { (x.now < M.prime) × (y.now < M.prime) × (z.now < M.prime) }
+    ensures point { jacobian M.prime (result.0, result.1, result.2)
+        ≡ sum M.prime (M.prime - 3) (jacobian M.prime (x.now, y.now, z.now)) other.now }
     ensures below { (result.0 < M.prime) × (result.1 < M.prime) × (result.2 < M.prime) }
 {
     let origin = Residue::zero();
     if z.is_equal(&origin) {
-        return (x2.copy(), y2.copy(), w.copy());
+        return (other.x.copy(), other.y.copy(), other.z.copy());
     }
-    if w.is_equal(&origin) {
+    if other.z.is_equal(&origin) {
         return (x.copy(), y.copy(), z.copy());
     }
     let zz = z.square();
-    let is_one = w.is_equal(&Residue::one());
-    let ww = product_by(w, w, is_one);
-    let u1 = product_by(x, &ww, is_one);
-    let u2 = x2.product(&zz);
-    let www = product_by(w, &ww, is_one);
-    let s1 = product_by(y, &www, is_one);
+    let u1 = product_by(x, &other.zz, other.is_one);
+    let u2 = other.x.product(&zz);
+    let s1 = product_by(y, &other.zzz, other.is_one);
     let zzz = z.product(&zz);
-    let s2 = y2.product(&zzz);
+    let s2 = other.y.product(&zzz);
     if u1.is_equal(&u2) {
         if s1.is_equal(&s2) {
             return double(x, y, z);
         }
         return (Residue::zero(), Residue::zero(), Residue::zero());
     }
-    chord(z, w, is_one, &u1, &u2, &s1, &s2)
+    chord(z, &other.z, other.is_one, &u1, &u2, &s1, &s2)
 }

@@ -3,7 +3,7 @@
 ghost use Rattle.std.specs.Prelude.{◌≡◌, ◌-◌, ◌<◌, ◌↔◌, ℕ, IsTrue, Some, None, IfSome, IfNone, true, false};
 ghost use Rattle.ts_curve.specs.Points.{double, joint_multiple, sum, with_bits};
 
-use crate::jacobian;
+use crate::jacobian::{self, Addend};
 use crate::limbs::Limbs;
 use crate::modulus::Modulus;
 use crate::residue::Residue;
@@ -64,7 +64,21 @@ impl<M: Modulus> CurvePoint<M> {
     pub fn sum(&self, other: &Self) -> Self
         ensures { result ≡ sum M.prime (M.prime - 3) self.now other.now }
     {
-        let (x, y, z) = jacobian::sum(&self.x, &self.y, &self.z, &other.x, &other.y, &other.z);
+        self.plus(&other.addend())
+    }
+
+    /// The point as it is added to others.
+    fn addend(&self) -> Addend<M>
+        ensures { result ≡ self.now }
+    {
+        Addend::new(&self.x, &self.y, &self.z)
+    }
+
+    /// The sum.
+    fn plus(&self, other: &Addend<M>) -> Self
+        ensures { result ≡ sum M.prime (M.prime - 3) self.now other.now }
+    {
+        let (x, y, z) = jacobian::sum(&self.x, &self.y, &self.z, other);
         CurvePoint { x, y, z }
     }
 
@@ -98,7 +112,9 @@ impl<M: Modulus> CurvePoint<M> {
         ensures { result ≡ joint_multiple M.prime (M.prime - 3) L.BITS (L.number u.now)
             (L.number v.now) self.now other.now }
     {
-        let both = self.sum(other);
+        let g = self.addend();
+        let q = other.addend();
+        let both = self.plus(&q).addend();
         let mut rest_u = *u;
         let mut rest_v = *v;
         let mut total = Self::infinity();
@@ -107,13 +123,13 @@ impl<M: Modulus> CurvePoint<M> {
             let (next_v, bit_v) = L::doubled(&rest_v);
             rest_u = next_u;
             rest_v = next_v;
-            total = total.step(bit_u == 1, bit_v == 1, self, other, &both);
+            total = total.step(bit_u == 1, bit_v == 1, &g, &q, &both);
         }
         total
     }
 
     /// The double, and the point added that goes with these two bits: `g`, `q`, or the sum of both.
-    fn step(&self, of_g: bool, of_q: bool, g: &Self, q: &Self, both: &Self) -> Self
+    fn step(&self, of_g: bool, of_q: bool, g: &Addend<M>, q: &Addend<M>, both: &Addend<M>) -> Self
         requires { both.now ≡ sum M.prime (M.prime - 3) g.now q.now }
         ensures { result ≡ with_bits M.prime (M.prime - 3) of_g of_q g.now q.now
             (double M.prime (M.prime - 3) self.now) }
@@ -121,9 +137,9 @@ impl<M: Modulus> CurvePoint<M> {
         let twice = self.double();
         match (of_g, of_q) {
             (false, false) => twice,
-            (false, true) => twice.sum(q),
-            (true, false) => twice.sum(g),
-            (true, true) => twice.sum(both),
+            (false, true) => twice.plus(q),
+            (true, false) => twice.plus(g),
+            (true, true) => twice.plus(both),
         }
     }
 }
