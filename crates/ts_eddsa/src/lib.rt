@@ -35,7 +35,6 @@ pub mod laws;
 mod number;
 mod order;
 mod point;
-mod power;
 mod signature;
 
 pub use signature::is_ed25519_signature;
