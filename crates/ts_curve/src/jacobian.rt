@@ -9,15 +9,12 @@ use crate::modulus::Modulus;
 use crate::residue::Residue;
 use std::marker::Model;
 
-/// The coordinates of a point's double. Twice the square of y is made once, which saves two sums.
-pub fn double<M: Modulus>(
-    x: &Residue<M>,
-    y: &Residue<M>,
-    z: &Residue<M>,
-) -> (Residue<M>, Residue<M>, Residue<M>)
-    ensures coordinates { (let t : Triple = (result.0, result.1, result.2) in t)
-        ≡ jacobian_double M.prime (x.now, y.now, z.now) }
-    ensures below { (result.0 < M.prime) × (result.1 < M.prime) × (result.2 < M.prime) }
+/// Turns the coordinates of a point into those of its double. Twice the square of y is made once,
+/// which saves two sums.
+pub fn double<M: Modulus>(x: &mut Residue<M>, y: &mut Residue<M>, z: &mut Residue<M>)
+    ensures coordinates { (let t : Triple = (x.new, y.new, z.new) in t)
+        ≡ jacobian_double M.prime (x.old, y.old, z.old) }
+    ensures below { (x.new < M.prime) × (y.new < M.prime) × (z.new < M.prime) }
 {
     let delta = z.square();
     let gamma = y.square();
@@ -39,7 +36,9 @@ pub fn double<M: Modulus>(
     let down = beta4.difference(&x3);
     let slope = alpha.product(&down);
     let y3 = slope.difference(&gg8);
-    (x3, y3, z3)
+    *x = x3;
+    *y = y3;
+    *z = z3;
 }
 
 /// A point as it is added to others: its coordinates, the square and the cube of z, and whether z is
@@ -130,24 +129,27 @@ fn chord<M: Modulus>(
     (x3, y3, z3)
 }
 
-/// The coordinates of the sum of two points.
+/// Turns the coordinates of a point into those of its sum with another point.
 pub fn sum<M: Modulus>(
-    x: &Residue<M>,
-    y: &Residue<M>,
-    z: &Residue<M>,
+    x: &mut Residue<M>,
+    y: &mut Residue<M>,
+    z: &mut Residue<M>,
     other: &Addend<M>,
-) -> (Residue<M>, Residue<M>, Residue<M>)
-    requires { (x.now < M.prime) × (y.now < M.prime) × (z.now < M.prime) }
-    ensures point { jacobian M.prime (result.0, result.1, result.2)
-        ≡ sum M.prime (M.prime - 3) (jacobian M.prime (x.now, y.now, z.now)) other.now }
-    ensures below { (result.0 < M.prime) × (result.1 < M.prime) × (result.2 < M.prime) }
+)
+    requires { (x.old < M.prime) × (y.old < M.prime) × (z.old < M.prime) }
+    ensures point { jacobian M.prime (x.new, y.new, z.new)
+        ≡ sum M.prime (M.prime - 3) (jacobian M.prime (x.old, y.old, z.old)) other.now }
+    ensures below { (x.new < M.prime) × (y.new < M.prime) × (z.new < M.prime) }
 {
     let origin = Residue::zero();
     if z.is_equal(&origin) {
-        return (other.x.copy(), other.y.copy(), other.z.copy());
+        *x = other.x.copy();
+        *y = other.y.copy();
+        *z = other.z.copy();
+        return;
     }
     if other.z.is_equal(&origin) {
-        return (x.copy(), y.copy(), z.copy());
+        return;
     }
     let zz = z.square();
     let u1 = product_by(x, &other.zz, other.is_one);
@@ -155,11 +157,18 @@ pub fn sum<M: Modulus>(
     let s1 = product_by(y, &other.zzz, other.is_one);
     let zzz = z.product(&zz);
     let s2 = other.y.product(&zzz);
-    if u1.is_equal(&u2) {
-        if s1.is_equal(&s2) {
-            return double(x, y, z);
-        }
-        return (Residue::zero(), Residue::zero(), Residue::zero());
+    if !u1.is_equal(&u2) {
+        let (x3, y3, z3) = chord(z, &other.z, other.is_one, &u1, &u2, &s1, &s2);
+        *x = x3;
+        *y = y3;
+        *z = z3;
+        return;
     }
-    chord(z, &other.z, other.is_one, &u1, &u2, &s1, &s2)
+    if s1.is_equal(&s2) {
+        double(x, y, z);
+        return;
+    }
+    *x = Residue::zero();
+    *y = Residue::zero();
+    *z = Residue::zero();
 }

@@ -56,15 +56,36 @@ impl<M: Modulus> CurvePoint<M> {
     pub fn double(&self) -> Self
         ensures { result ≡ double M.prime (M.prime - 3) self.now }
     {
-        let (x, y, z) = jacobian::double(&self.x, &self.y, &self.z);
-        CurvePoint { x, y, z }
+        let mut point = self.copy();
+        point.double_in_place();
+        point
+    }
+
+    /// The same point.
+    fn copy(&self) -> Self
+        ensures { result ≡ self.now }
+    {
+        CurvePoint {
+            x: self.x.copy(),
+            y: self.y.copy(),
+            z: self.z.copy(),
+        }
+    }
+
+    /// Turns the point into its double.
+    fn double_in_place(&mut self)
+        ensures { self.new ≡ double M.prime (M.prime - 3) self.old }
+    {
+        jacobian::double(&mut self.x, &mut self.y, &mut self.z);
     }
 
     /// The sum.
     pub fn sum(&self, other: &Self) -> Self
         ensures { result ≡ sum M.prime (M.prime - 3) self.now other.now }
     {
-        self.plus(&other.addend())
+        let mut point = self.copy();
+        point.add(&other.addend());
+        point
     }
 
     /// The point as it is added to others.
@@ -74,12 +95,11 @@ impl<M: Modulus> CurvePoint<M> {
         Addend::new(&self.x, &self.y, &self.z)
     }
 
-    /// The sum.
-    fn plus(&self, other: &Addend<M>) -> Self
-        ensures { result ≡ sum M.prime (M.prime - 3) self.now other.now }
+    /// Turns the point into its sum with another.
+    fn add(&mut self, other: &Addend<M>)
+        ensures { self.new ≡ sum M.prime (M.prime - 3) self.old other.now }
     {
-        let (x, y, z) = jacobian::sum(&self.x, &self.y, &self.z, other);
-        CurvePoint { x, y, z }
+        jacobian::sum(&mut self.x, &mut self.y, &mut self.z, other);
     }
 
     /// The first coordinate; `None` for infinity.
@@ -114,7 +134,7 @@ impl<M: Modulus> CurvePoint<M> {
     {
         let g = self.addend();
         let q = other.addend();
-        let both = self.plus(&q).addend();
+        let both = self.sum(other).addend();
         let mut rest_u = *u;
         let mut rest_v = *v;
         let mut total = Self::infinity();
@@ -123,23 +143,24 @@ impl<M: Modulus> CurvePoint<M> {
             let (next_v, bit_v) = L::doubled(&rest_v);
             rest_u = next_u;
             rest_v = next_v;
-            total = total.step(bit_u == 1, bit_v == 1, &g, &q, &both);
+            total.step(bit_u == 1, bit_v == 1, &g, &q, &both);
         }
         total
     }
 
-    /// The double, and the point added that goes with these two bits: `g`, `q`, or the sum of both.
-    fn step(&self, of_g: bool, of_q: bool, g: &Addend<M>, q: &Addend<M>, both: &Addend<M>) -> Self
+    /// Turns the point into its double, and adds what goes with these two bits: `g`, `q`, or the sum of
+    /// both.
+    fn step(&mut self, of_g: bool, of_q: bool, g: &Addend<M>, q: &Addend<M>, both: &Addend<M>)
         requires { both.now ≡ sum M.prime (M.prime - 3) g.now q.now }
-        ensures { result ≡ with_bits M.prime (M.prime - 3) of_g of_q g.now q.now
-            (double M.prime (M.prime - 3) self.now) }
+        ensures { self.new ≡ with_bits M.prime (M.prime - 3) of_g of_q g.now q.now
+            (double M.prime (M.prime - 3) self.old) }
     {
-        let twice = self.double();
+        self.double_in_place();
         match (of_g, of_q) {
-            (false, false) => twice,
-            (false, true) => twice.plus(q),
-            (true, false) => twice.plus(g),
-            (true, true) => twice.plus(both),
+            (false, false) => {}
+            (false, true) => self.add(q),
+            (true, false) => self.add(g),
+            (true, true) => self.add(both),
         }
     }
 }

@@ -75,36 +75,7 @@ returns-then-is_equal-2-clause-point g c =
     i.0 i.1 i.2 in
     let e : t.2 ≢ 0 = λ k. false≢true (c.if-is_equal.ensures.1 (k ∙ sym c.zero-origin.ensures)) in
     let m : u.2 ≡ 0 = c.if-is_equal-2.ensures.0 refl ∙ c.zero-origin.ensures in
-    to
-    (c.copy-then-is_equal-2-2.result, c.copy-then-is_equal-2-3.result, c.copy-then-is_equal-2-4.result)
-    (rw (
-      right p t u e m,
-      c.copy-then-is_equal-2-2.ensures.same,
-      c.copy-then-is_equal-2-3.ensures.same,
-      c.copy-then-is_equal-2-4.ensures.same,
-    ) refl)
-    c.other.view_is
-
-pub returns-then-is_equal-4-clause-point : goal.returns-then-is_equal-4-clause-point
-returns-then-is_equal-4-clause-point g c =
-    let p = g.M.Modulus.prime in
-    let o = c.other.inside in
-    let i = c.other.invariant in
-    let l = c.requires in
-    let t : Triple = (c.args.x.now, c.args.y.now, c.args.z.now) in
-    let u : Triple = (o.x, o.y, o.z) in
-    let to = λ (r : Triple). points p r t u c.args.other.now g.met.M.Modulus.is_field l.0 l.1 l.2
-    i.0 i.1 i.2 in
-    let e : t.2 ≢ 0 = λ k. false≢true (c.if-is_equal.ensures.1 (k ∙ sym c.zero-origin.ensures)) in
-    let m : u.2 ≢ 0 = λ k. false≢true (c.if-is_equal-2.ensures.1 (k ∙ sym c.zero-origin.ensures)) in
-    let q = products p t u c.square-zz.result c.product-zzz.result o.zz o.zzz c.product_by-u1.result
-    c.product-u2.result c.product_by-s1.result c.product-s2.result c.square-zz.ensures
-    c.product-zzz.ensures i.3 i.4 c.product_by-u1.ensures c.product-u2.ensures
-    c.product_by-s1.ensures c.product-s2.ensures in
-    to (c.double.result.0, c.double.result.1, c.double.result.2)
-    (c.double.ensures.coordinates ∙ sym (same_first p t u e m (q.0 ∙ c.if-is_equal-3.ensures.0 refl
-    ∙ sym q.1) (q.2 ∙ c.if-is_equal-4.ensures.0 refl ∙ sym q.3)))
-    c.other.view_is
+    to t (sym (right p t u e m)) c.other.view_is
 
 pub returns-then-is_equal-3-clause-point : goal.returns-then-is_equal-3-clause-point
 returns-then-is_equal-3-clause-point g c =
@@ -122,14 +93,13 @@ returns-then-is_equal-3-clause-point g c =
     c.product-u2.result c.product_by-s1.result c.product-s2.result c.square-zz.ensures
     c.product-zzz.ensures i.3 i.4 c.product_by-u1.ensures c.product-u2.ensures
     c.product_by-s1.ensures c.product-s2.ensures in
-    to (c.zero.result, c.zero-then-is_equal-3.result, c.zero-then-is_equal-3-2.result)
-    (rw (c.zero.ensures, c.zero-then-is_equal-3.ensures, c.zero-then-is_equal-3-2.ensures)
-    (sym (opposite p t u e m (q.0 ∙ c.if-is_equal-3.ensures.0 refl
-    ∙ sym q.1) (λ k. false≢true (c.if-is_equal-4.ensures.1 (sym q.2 ∙ k ∙ q.3))))))
+    to (c.double.new.x, c.double.new.y, c.double.new.z)
+    (c.double.ensures.coordinates ∙ sym (same_first p t u e m
+    (q.0 ∙ c.if-not-is_equal.ensures.0 refl ∙ sym q.1)
+    (q.2 ∙ c.if-is_equal-3.ensures.0 refl ∙ sym q.3)))
     c.other.view_is
 
 pub returns-clause-point : goal.returns-clause-point
-unfolding jacobian_chord
 returns-clause-point g c =
     let p = g.M.Modulus.prime in
     let o = c.other.inside in
@@ -145,8 +115,31 @@ returns-clause-point g c =
     c.product-u2.result c.product_by-s1.result c.product-s2.result c.square-zz.ensures
     c.product-zzz.ensures i.3 i.4 c.product_by-u1.ensures c.product-u2.ensures
     c.product_by-s1.ensures c.product-s2.ensures in
-    to (c.chord.result.0, c.chord.result.1, c.chord.result.2)
-    (c.chord.ensures.coordinates
+    to (c.zero.result, c.zero-2.result, c.zero-3.result)
+    (rw (c.zero.ensures, c.zero-2.ensures, c.zero-3.ensures) (sym (opposite p t u e m
+    (q.0 ∙ c.if-not-is_equal.ensures.0 refl ∙ sym q.1)
+    (λ k. false≢true (c.if-is_equal-3.ensures.1 (sym q.2 ∙ k ∙ q.3))))))
+    c.other.view_is
+
+pub returns-then-not-is_equal-clause-point : goal.returns-then-not-is_equal-clause-point
+unfolding jacobian_chord
+returns-then-not-is_equal-clause-point g c =
+    let p = g.M.Modulus.prime in
+    let o = c.other.inside in
+    let i = c.other.invariant in
+    let l = c.requires in
+    let t : Triple = (c.args.x.now, c.args.y.now, c.args.z.now) in
+    let u : Triple = (o.x, o.y, o.z) in
+    let to = λ (r : Triple). points p r t u c.args.other.now g.met.M.Modulus.is_field l.0 l.1 l.2
+    i.0 i.1 i.2 in
+    let e : t.2 ≢ 0 = λ k. false≢true (c.if-is_equal.ensures.1 (k ∙ sym c.zero-origin.ensures)) in
+    let m : u.2 ≢ 0 = λ k. false≢true (c.if-is_equal-2.ensures.1 (k ∙ sym c.zero-origin.ensures)) in
+    let q = products p t u c.square-zz.result c.product-zzz.result o.zz o.zzz c.product_by-u1.result
+    c.product-u2.result c.product_by-s1.result c.product-s2.result c.square-zz.ensures
+    c.product-zzz.ensures i.3 i.4 c.product_by-u1.ensures c.product-u2.ensures
+    c.product_by-s1.ensures c.product-s2.ensures in
+    to (c.chord-x3.result.0, c.chord-x3.result.1, c.chord-x3.result.2)
+    (c.chord-x3.ensures.coordinates
     ∙ (rw (← q.0, ← q.1, ← q.2, ← q.3) refl)
-    ∙ sym (apart p t u e m (λ k. false≢true (c.if-is_equal-3.ensures.1 (sym q.0 ∙ k ∙ q.1)))))
+    ∙ sym (apart p t u e m (λ k. false≢true (c.if-not-is_equal.ensures.1 (sym q.0 ∙ k ∙ q.1)))))
     c.other.view_is
