@@ -29,7 +29,8 @@ fn is_solved(a: &EdwardsPoint, r: &EdwardsPoint, s: &Limbs4, k: &Limbs4) -> bool
     ensures { result ≡ holds (Some a.now) (Some r.now) (number4 s.now) (number4 k.now) }
 {
     let left = EdwardsPoint::base().multiple(s);
-    let right = r.sum(&a.multiple(k).addend());
+    let mut right = r.copy();
+    right.add(&a.multiple(k).addend());
     left.is_equal(&right)
 }
 

@@ -7,7 +7,7 @@ unfolding double
 returns c =
     rw (
       ← c.self.view_is,
-      c.completion.ensures,
+      c.complete.ensures,
       c.sum-f.ensures,
       c.difference-e.ensures,
       c.square-square.ensures,

@@ -1,6 +1,6 @@
 use Rattle.std.proofs.Common.{refl}
 use Rattle.ts_eddsa.specs.inside.Addend.{sum_by}
-use Rattle.ts_eddsa.proofs.point.EdwardsPoint.sum.Goals as goal
+use Rattle.ts_eddsa.proofs.point.EdwardsPoint.add.Goals as goal
 
 pub returns : goal.returns
 unfolding sum_by
@@ -8,7 +8,7 @@ returns c =
     rw (
       ← c.self.view_is,
       ← c.other.view_is,
-      c.completion.ensures,
+      c.complete.ensures,
       c.sum-h.ensures,
       c.sum-g.ensures,
       c.difference-f.ensures,
