@@ -41,8 +41,8 @@ pub fn double<M: Modulus>(x: &mut Residue<M>, y: &mut Residue<M>, z: &mut Residu
     *z = z3;
 }
 
-/// A point as it is added to others: its coordinates, the square and the cube of z, and whether z is
-/// known to be 1.
+/// A point as it is added to others: its coordinates, the square and the cube of z, and whether z
+/// is known to be 1.
 #[derive(Drop)]
 pub struct Addend<M: Modulus> {
     x: Residue<M>,
@@ -94,22 +94,24 @@ fn product_by<M: Modulus>(x: &Residue<M>, w: &Residue<M>, is_one: bool) -> Resid
     if is_one { x.copy() } else { x.product(w) }
 }
 
-/// The coordinates of the sum of two points that are not infinity and have different first
-/// coordinates.
+/// Turns the coordinates of a point into those of its sum with another, where neither is infinity
+/// and their first coordinates differ.
 #[inline(always)]
 fn chord<M: Modulus>(
-    z: &Residue<M>,
+    x: &mut Residue<M>,
+    y: &mut Residue<M>,
+    z: &mut Residue<M>,
     w: &Residue<M>,
     is_one: bool,
     u1: &Residue<M>,
     u2: &Residue<M>,
     s1: &Residue<M>,
     s2: &Residue<M>,
-) -> (Residue<M>, Residue<M>, Residue<M>)
+)
     requires { is_one ≡ true → w.now ≡ 1 }
-    ensures coordinates { (let t : Triple = (result.0, result.1, result.2) in t)
-        ≡ chord_sum M.prime z.now w.now u1.now u2.now s1.now s2.now }
-    ensures below { (result.0 < M.prime) × (result.1 < M.prime) × (result.2 < M.prime) }
+    ensures coordinates { (let t : Triple = (x.new, y.new, z.new) in t)
+        ≡ chord_sum M.prime z.old w.now u1.now u2.now s1.now s2.now }
+    ensures below { (x.new < M.prime) × (y.new < M.prime) × (z.new < M.prime) }
 {
     let h = u2.difference(u1);
     let r = s2.difference(s1);
@@ -126,7 +128,9 @@ fn chord<M: Modulus>(
     let y3 = slope.difference(&base);
     let zw = product_by(z, w, is_one);
     let z3 = zw.product(&h);
-    (x3, y3, z3)
+    *x = x3;
+    *y = y3;
+    *z = z3;
 }
 
 /// Turns the coordinates of a point into those of its sum with another point.
@@ -158,10 +162,7 @@ pub fn sum<M: Modulus>(
     let zzz = z.product(&zz);
     let s2 = other.y.product(&zzz);
     if !u1.is_equal(&u2) {
-        let (x3, y3, z3) = chord(z, &other.z, other.is_one, &u1, &u2, &s1, &s2);
-        *x = x3;
-        *y = y3;
-        *z = z3;
+        chord(x, y, z, &other.z, other.is_one, &u1, &u2, &s1, &s2);
         return;
     }
     if s1.is_equal(&s2) {

@@ -1,6 +1,7 @@
 //! Points of a curve whose a is -3.
 
-ghost use Rattle.std.specs.Prelude.{◌≡◌, ◌-◌, ◌<◌, ◌↔◌, ℕ, IsTrue, Some, None, IfSome, IfNone, true, false};
+ghost use Rattle.std.specs.Prelude.{◌≡◌, ◌-◌, ◌<◌, ◌↔◌, ℕ, IsTrue, true, false};
+ghost use Rattle.std.specs.Prelude.{Some, None, IfSome, IfNone};
 ghost use Rattle.ts_curve.specs.Points.{double, joint_multiple, sum, with_bits};
 
 use crate::jacobian::{self, Addend};
@@ -72,7 +73,7 @@ impl<M: Modulus> CurvePoint<M> {
         }
     }
 
-    /// Turns the point into its double.
+    /// Turns the point into its double. In place, since a point that is returned is copied.
     fn double_in_place(&mut self)
         ensures { self.new ≡ double M.prime (M.prime - 3) self.old }
     {
@@ -148,8 +149,8 @@ impl<M: Modulus> CurvePoint<M> {
         total
     }
 
-    /// Turns the point into its double, and adds what goes with these two bits: `g`, `q`, or the sum of
-    /// both.
+    /// Turns the point into its double, and adds what goes with these two bits: `g`, `q`, or the
+    /// sum of both.
     fn step(&mut self, of_g: bool, of_q: bool, g: &Addend<M>, q: &Addend<M>, both: &Addend<M>)
         requires { both.now ≡ sum M.prime (M.prime - 3) g.now q.now }
         ensures { self.new ≡ with_bits M.prime (M.prime - 3) of_g of_q g.now q.now

@@ -138,8 +138,8 @@ returns-then-not-is_equal-clause-point g c =
     c.product-u2.result c.product_by-s1.result c.product-s2.result c.square-zz.ensures
     c.product-zzz.ensures i.3 i.4 c.product_by-u1.ensures c.product-u2.ensures
     c.product_by-s1.ensures c.product-s2.ensures in
-    to (c.chord-x3.result.0, c.chord-x3.result.1, c.chord-x3.result.2)
-    (c.chord-x3.ensures.coordinates
+    to (c.chord.new.x, c.chord.new.y, c.chord.new.z)
+    (c.chord.ensures.coordinates
     ∙ (rw (← q.0, ← q.1, ← q.2, ← q.3) refl)
     ∙ sym (apart p t u e m (λ k. false≢true (c.if-not-is_equal.ensures.1 (sym q.0 ∙ k ∙ q.1)))))
     c.other.view_is

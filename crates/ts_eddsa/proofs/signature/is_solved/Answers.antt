@@ -14,7 +14,8 @@ returns c =
     let left : c.multiple-left.result ≡ multiple 256 s base =
     c.multiple-left.ensures ∙ ap (multiple 256 s) c.base.ensures in
     let right : c.add.new.self ≡ sum r m =
-    c.add.ensures ∙ ap (λ q. sum_by q c.addend.result) c.copy-right.ensures ∙ ap (sum_by r) (c.addend.ensures ∙ ap addend_of c.multiple.ensures)
+    c.add.ensures ∙ ap (λ q. sum_by q c.addend.result) c.copy-right.ensures
+    ∙ ap (sum_by r) (c.addend.ensures ∙ ap addend_of c.multiple.ensures)
     ∙ sum_is r m in
     c.is_equal.ensures ∙ ap (λ q. are_equal q c.add.new.self) left
     ∙ ap (are_equal (multiple 256 s base)) right
