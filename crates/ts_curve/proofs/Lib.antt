@@ -2,6 +2,7 @@ pub mod Montgomery
 pub mod Stored
 pub mod Triples
 pub mod Double
+pub mod First
 pub mod Add
 pub mod Multiple
 pub mod Bits

@@ -1,6 +1,6 @@
 //! Curves by their domain parameters (SEC 1 3.1.1).
 
-ghost use Rattle.std.specs.Prelude.{◌≡◌, ◌-◌, ◌<◌, ◌%◌, ◌↔◌, IsTrue, true};
+ghost use Rattle.std.specs.Prelude.{◌≡◌, ◌+◌, ◌-◌, ◌*◌, ◌<◌, ◌%◌, ◌↔◌, ℕ, IsTrue, Some, true};
 ghost use Rattle.ts_curve.specs.Curves.{Curve as Parameters, IsOnCurve, base};
 ghost use Rattle.ts_curve.specs.Curves.{is_on_curve as is_on_curve_test};
 
@@ -46,6 +46,10 @@ pub trait DomainParameters {
     ghost base_is_on: { is_on_curve_test curve curve.base_x curve.base_y ≡ true };
 
     ghost b_is_below: { curve.b < curve.prime };
+
+    ghost order_is_below: { curve.order < curve.prime };
+
+    ghost prime_is_below: { curve.prime < 2 * curve.order };
 }
 
 /// The base point.
@@ -67,8 +71,8 @@ pub fn is_on_curve<C: DomainParameters>(x: &Residue<C::Prime>, y: &Residue<C::Pr
     let three = Residue::from_limbs(&C::Limbs::small(3));
     let a = Residue::zero().difference(&three);
     let b = Residue::from_limbs(&C::b());
-    let left = second.product(&second);
-    let square = first.product(&first);
+    let left = second.square();
+    let square = first.square();
     let cube = first.product(&square);
     let line = a.product(&first);
     let sum = cube.sum(&line);
@@ -81,4 +85,38 @@ pub fn scalar_of<C: DomainParameters>(x: &Residue<C::Prime>) -> Residue<C::Order
     ensures { result ≡ x.now % C.curve.order }
 {
     Residue::from_limbs(&x.to_limbs())
+}
+
+/// Whether the first coordinate of a point is the sum of `r` and the order of the base point, which
+/// is seldom below the prime.
+fn has_scalar_and_order<C: DomainParameters>(
+    point: &CurvePoint<C::Prime>,
+    r: &Residue<C::Order>,
+) -> bool
+    ensures { IsTrue result ↔ ((r.now + C.curve.order < C.curve.prime)
+        × ((y : ℕ) × (point.now ≡ Some (r.now + C.curve.order, y)))) }
+{
+    let first = r.copy();
+    let limbs = first.to_limbs();
+    let order = Residue::from_limbs(&C::Order::prime());
+    let rest = Residue::zero().difference(&order);
+    if !C::Limbs::is_less(&limbs, &rest.to_limbs()) {
+        return false;
+    }
+    let x = Residue::from_limbs(&limbs);
+    point.has_x(&x.sum(&order))
+}
+
+/// Whether a point is not infinity, and its first coordinate is `r` modulo the order of the base
+/// point: it is then `r` itself, or the sum of `r` and the order.
+pub fn has_scalar<C: DomainParameters>(point: &CurvePoint<C::Prime>, r: &Residue<C::Order>) -> bool
+    ensures { IsTrue result ↔ ((x y : ℕ) × (point.now ≡ Some (x, y))
+        × (x % C.curve.order ≡ r.now)) }
+{
+    let first = r.copy();
+    let x = Residue::from_limbs(&first.to_limbs());
+    if point.has_x(&x) {
+        return true;
+    }
+    has_scalar_and_order::<C>(point, r)
 }

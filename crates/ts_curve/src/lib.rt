@@ -1,34 +1,42 @@
 //! The elliptic curves P-256 and P-384 (SP 800-186 3.2.1): their points, and arithmetic modulo
-//! their primes.
+//! their primes and that of edwards25519.
 //!
-//! All but the limbs is written once, over three traits: [`Limbs`], the numbers of four or six
-//! limbs of 64 bits; [`Modulus`], a prime with what Montgomery's product needs of it; and
-//! [`DomainParameters`], a curve. No call allocates.
+//! All but the limbs and the reductions is written once, over three traits: [`Limbs`], the numbers
+//! of four or six limbs of 64 bits; [`Modulus`], a prime with what Montgomery's product needs of
+//! it; and [`DomainParameters`], a curve. A product is made of limbs, and then reduced as
+//! Montgomery does, which each prime of a field does by its own shape. No call allocates.
 //!
 //! ```text
 //! // u times the base point of P-256, and v times another point
 //! let u: Residue<OrderP256> = residue_of_octets(octets);
 //! let point = base_point::<P256>().joint_multiple(&u.to_limbs(), &other, &v.to_limbs());
-//! point.x()    // None: the point is infinity
+//! point.x()                      // None: the point is infinity
+//! has_scalar::<P256>(&point, &r) // without a division: is it r, modulo the order?
 //! ```
 //!
 //! Contracts see a `Residue` as its number, and a `CurvePoint` as its coordinates, or as `None`
 //! where it is infinity. The sum of two points is that of chord and tangent, the sum of two
-//! multiples is by doubling and adding, both at once (`specs/Points.antt`); the curves are in `specs/Curves.antt`.
+//! multiples is by doubling and adding, both at once (`specs/Points.antt`); the curves are in
+//! `specs/Curves.antt`.
 //!
 //! What is proved of each call:
 //!
 //! - [`Limbs`], for [`Limbs4`] and [`Limbs6`]: each call is exact, with what is carried out.
-//!   `montgomery_product` is below the modulus and, times 2^BITS, congruent to the product.
-//! - [`Modulus`], for the primes and orders of both curves: the constants are what they are called,
-//!   and the prime is one.
-//! - [`Residue`]: `product`, `sum`, `difference` and `inverse` are those modulo the prime, `zero`,
-//!   `one`, `copy` and `is_equal` are exact; `from_limbs` is the remainder, `to_limbs` the number.
+//!   `montgomery_reduction` is below the modulus and, times 2^BITS, congruent to the number with
+//!   these low and high limbs; `montgomery_product` so to the product.
+//! - [`Modulus`], for the primes and orders of both curves and for [`Prime25519`]: the constants
+//!   are what they are called, and the prime is one; `reduction` and `modular_sum` are what `Limbs`
+//!   says of its own.
+//! - [`Residue`]: `product`, `square`, `sum`, `difference`, `power` and `inverse` are those modulo
+//!   the prime, `zero`, `one`, `copy` and `is_equal` are exact; `from_limbs` is the remainder,
+//!   `to_limbs` the number.
 //! - [`CurvePoint`]: `new`, `infinity`, `double`, `sum` and `joint_multiple` are those of
-//!   `specs/Points.antt`, where a is -3; `x` is the first coordinate.
+//!   `specs/Points.antt`, where a is -3; `x` is the first coordinate, and `has_x` tells exactly
+//!   whether a number is.
 //! - [`DomainParameters`], for [`P256`] and [`P384`]: the coefficient b and the base point.
 //!   [`base_point`] is the base point, [`is_on_curve`] tells exactly whether coordinates are on the
-//!   curve (SEC 1 3.2.2.1), [`scalar_of`] is the remainder modulo the order.
+//!   curve (SEC 1 3.2.2.1), [`scalar_of`] is the remainder modulo the order, and [`has_scalar`]
+//!   tells exactly whether a point's first coordinate has a remainder.
 //! - [`limbs_from_octets`], [`residue_from_octets`], [`residue_of_octets`]: the number of octets
 //!   (SEC 1 2.3.8), where it fits; where it is below the prime; modulo the prime.
 //! - [`laws`]: the base points are on their curves; `inverse` is the inverse modulo the orders; in
@@ -37,8 +45,9 @@
 //! # Not promised
 //!
 //! Constant time: nothing here is for secrets. That the sum of points is associative, so that any
-//! other way to add up gives the same sum of multiples; that the base point has the order that is named.
-//! That the numbers of `specs/Curves.antt` are those of SP 800-186 is for a reader to compare.
+//! other way to add up gives the same sum of multiples; that the base point has the order that is
+//! named. That the numbers of `specs/Curves.antt` are those of SP 800-186 is for a reader to
+//! compare.
 #![tactic(auto)]
 
 mod curve;
@@ -49,19 +58,24 @@ mod limb;
 mod limbs;
 mod modulus;
 mod octets;
+mod p25519;
+mod p25519_reduction;
 mod p256;
+mod p256_reduction;
 mod p384;
+mod p384_reduction;
 mod point;
 mod residue;
 mod six;
 
-pub use curve::{DomainParameters, base_point, is_on_curve, scalar_of};
+pub use curve::{DomainParameters, base_point, has_scalar, is_on_curve, scalar_of};
 pub use four::Limbs4;
 pub use limbs::Limbs;
 pub use modulus::Modulus;
 pub use octets::{limbs_from_octets, residue_from_octets, residue_of_octets};
 pub use p256::{OrderP256, P256, PrimeP256};
 pub use p384::{OrderP384, P384, PrimeP384};
+pub use p25519::Prime25519;
 pub use point::CurvePoint;
 pub use residue::Residue;
 pub use six::Limbs6;

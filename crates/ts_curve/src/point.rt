@@ -1,9 +1,10 @@
 //! Points of a curve whose a is -3.
 
-ghost use Rattle.std.specs.Prelude.{◌≡◌, ◌-◌, ℕ, Some, None, IfSome, IfNone, true, false};
+ghost use Rattle.std.specs.Prelude.{◌≡◌, ◌-◌, ◌<◌, ◌↔◌, ℕ, IsTrue, true, false};
+ghost use Rattle.std.specs.Prelude.{Some, None, IfSome, IfNone};
 ghost use Rattle.ts_curve.specs.Points.{double, joint_multiple, sum, with_bits};
 
-use crate::jacobian;
+use crate::jacobian::{self, Addend};
 use crate::limbs::Limbs;
 use crate::modulus::Modulus;
 use crate::residue::Residue;
@@ -56,16 +57,50 @@ impl<M: Modulus> CurvePoint<M> {
     pub fn double(&self) -> Self
         ensures { result ≡ double M.prime (M.prime - 3) self.now }
     {
-        let (x, y, z) = jacobian::double(&self.x, &self.y, &self.z);
-        CurvePoint { x, y, z }
+        let mut point = self.copy();
+        point.double_in_place();
+        point
+    }
+
+    /// The same point.
+    fn copy(&self) -> Self
+        ensures { result ≡ self.now }
+    {
+        CurvePoint {
+            x: self.x.copy(),
+            y: self.y.copy(),
+            z: self.z.copy(),
+        }
+    }
+
+    /// Turns the point into its double. In place, since a point that is returned is copied.
+    fn double_in_place(&mut self)
+        ensures { self.new ≡ double M.prime (M.prime - 3) self.old }
+    {
+        jacobian::double(&mut self.x, &mut self.y, &mut self.z);
     }
 
     /// The sum.
     pub fn sum(&self, other: &Self) -> Self
         ensures { result ≡ sum M.prime (M.prime - 3) self.now other.now }
     {
-        let (x, y, z) = jacobian::sum(&self.x, &self.y, &self.z, &other.x, &other.y, &other.z);
-        CurvePoint { x, y, z }
+        let mut point = self.copy();
+        point.add(&other.addend());
+        point
+    }
+
+    /// The point as it is added to others.
+    fn addend(&self) -> Addend<M>
+        ensures { result ≡ self.now }
+    {
+        Addend::new(&self.x, &self.y, &self.z)
+    }
+
+    /// Turns the point into its sum with another.
+    fn add(&mut self, other: &Addend<M>)
+        ensures { self.new ≡ sum M.prime (M.prime - 3) self.old other.now }
+    {
+        jacobian::sum(&mut self.x, &mut self.y, &mut self.z, other);
     }
 
     /// The first coordinate; `None` for infinity.
@@ -77,7 +112,20 @@ impl<M: Modulus> CurvePoint<M> {
             return None;
         }
         let inverse = self.z.inverse();
-        Some(self.x.product(&inverse.product(&inverse)))
+        Some(self.x.product(&inverse.square()))
+    }
+
+    /// Whether the point is not infinity, and its first coordinate is `x`: without a division, by a
+    /// comparison with `x` times the square of z.
+    pub fn has_x(&self, x: &Residue<M>) -> bool
+        ensures exactly { IsTrue result ↔ ((y : ℕ) × (self.now ≡ Some (x.now, y))) }
+        ensures below { (x y : ℕ) → self.now ≡ Some (x, y) → x < M.prime }
+    {
+        if self.z.is_equal(&Residue::zero()) {
+            return false;
+        }
+        let first = x.copy();
+        self.x.is_equal(&first.product(&self.z.square()))
     }
 
     /// The sum of `u` times this point and `v` times another, in one pass over the bits of both.
@@ -85,7 +133,9 @@ impl<M: Modulus> CurvePoint<M> {
         ensures { result ≡ joint_multiple M.prime (M.prime - 3) L.BITS (L.number u.now)
             (L.number v.now) self.now other.now }
     {
-        let both = self.sum(other);
+        let g = self.addend();
+        let q = other.addend();
+        let both = self.sum(other).addend();
         let mut rest_u = *u;
         let mut rest_v = *v;
         let mut total = Self::infinity();
@@ -94,23 +144,24 @@ impl<M: Modulus> CurvePoint<M> {
             let (next_v, bit_v) = L::doubled(&rest_v);
             rest_u = next_u;
             rest_v = next_v;
-            total = total.step(bit_u == 1, bit_v == 1, self, other, &both);
+            total.step(bit_u == 1, bit_v == 1, &g, &q, &both);
         }
         total
     }
 
-    /// The double, and the point added that goes with these two bits: `g`, `q`, or the sum of both.
-    fn step(&self, of_g: bool, of_q: bool, g: &Self, q: &Self, both: &Self) -> Self
+    /// Turns the point into its double, and adds what goes with these two bits: `g`, `q`, or the
+    /// sum of both.
+    fn step(&mut self, of_g: bool, of_q: bool, g: &Addend<M>, q: &Addend<M>, both: &Addend<M>)
         requires { both.now ≡ sum M.prime (M.prime - 3) g.now q.now }
-        ensures { result ≡ with_bits M.prime (M.prime - 3) of_g of_q g.now q.now
-            (double M.prime (M.prime - 3) self.now) }
+        ensures { self.new ≡ with_bits M.prime (M.prime - 3) of_g of_q g.now q.now
+            (double M.prime (M.prime - 3) self.old) }
     {
-        let twice = self.double();
+        self.double_in_place();
         match (of_g, of_q) {
-            (false, false) => twice,
-            (false, true) => twice.sum(q),
-            (true, false) => twice.sum(g),
-            (true, true) => twice.sum(both),
+            (false, false) => {}
+            (false, true) => self.add(q),
+            (true, false) => self.add(g),
+            (true, true) => self.add(both),
         }
     }
 }

@@ -3,12 +3,19 @@
 ghost use Rattle.std.specs.Prelude.{◌≡◌, ◌≤◌, ◌<◌, ◌↔◌, IsTrue, IfSome, IfNone, true, false};
 ghost use Rattle.ts_der.specs.Integer.{is_negative};
 ghost use Rattle.ts_curve.specs.Octets.{number_of};
-ghost use Rattle.ts_ecdsa.specs.Number.{IsNumberSignature};
+ghost use Rattle.ts_ecdsa.specs.Number.{FirstIs, IsNumberSignature};
 
 use ts_curve::{
-    CurvePoint, DomainParameters, Modulus, Residue, base_point, residue_from_octets, scalar_of,
+    CurvePoint, DomainParameters, Modulus, Residue, base_point, has_scalar, residue_from_octets,
 };
 use ts_der::Integer;
+
+/// Whether a point is not infinity, and its first coordinate is `r` modulo the order.
+fn is_first<C: DomainParameters>(point: &CurvePoint<C::Prime>, r: &Residue<C::Order>) -> bool
+    ensures { IsTrue result ↔ FirstIs C.curve.order point.now r.now }
+{
+    has_scalar::<C>(point, r)
+}
 
 /// Whether `(r, s)` is a signature of `e` under the key `q` (FIPS 186-5 6.4.2).
 pub fn is_number_signature<C: DomainParameters>(
@@ -28,10 +35,8 @@ pub fn is_number_signature<C: DomainParameters>(
     let inverse = s.inverse();
     let u = e.product(&inverse).to_limbs();
     let v = r.product(&inverse).to_limbs();
-    match base_point::<C>().joint_multiple(&u, q, &v).x() {
-        None => false,
-        Some(x) => scalar_of::<C>(&x).is_equal(&r),
-    }
+    let point = base_point::<C>().joint_multiple(&u, q, &v);
+    is_first::<C>(&point, &r)
 }
 
 /// The number of an INTEGER; `None` where it is negative, or not below the prime.

@@ -31,11 +31,10 @@
 #![tactic(auto)]
 
 mod decode;
-mod field;
 pub mod laws;
 mod number;
+mod order;
 mod point;
-mod power;
 mod signature;
 
 pub use signature::is_ed25519_signature;

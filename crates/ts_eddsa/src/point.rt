@@ -6,9 +6,8 @@ ghost use Rattle.ts_eddsa.specs.Points.{affine, base, neutral, completion, doubl
 ghost use Rattle.ts_eddsa.specs.inside.Addend.{addend_of, sum_by};
 ghost use Rattle.ts_eddsa.specs.Tests.{are_equal};
 
-use crate::field::Prime25519;
 use std::marker::Model;
-use ts_curve::{Limbs, Limbs4, Residue};
+use ts_curve::{Limbs, Limbs4, Prime25519, Residue};
 
 /// The coefficient d of the curve -x^2 + y^2 = 1 + d x^2 y^2.
 pub const D: Limbs4 = Limbs4 {
@@ -68,24 +67,6 @@ impl Model for Addend {
     ghost view = { λ q. prepared_point q.low q.high q.scaled q.twice };
 }
 
-/// The last products of both formulas: E F, G H, F G and E H.
-#[inline(always)]
-fn completion(
-    e: &Residue<Prime25519>,
-    f: &Residue<Prime25519>,
-    g: &Residue<Prime25519>,
-    h: &Residue<Prime25519>,
-) -> EdwardsPoint
-    ensures { result ≡ completion e.now f.now g.now h.now }
-{
-    EdwardsPoint {
-        x: e.product(f),
-        y: g.product(h),
-        z: f.product(g),
-        t: e.product(h),
-    }
-}
-
 impl EdwardsPoint {
     /// The neutral point.
     pub fn neutral() -> Self
@@ -118,21 +99,50 @@ impl EdwardsPoint {
         Self::affine(&Residue::from_limbs(&BASE_X), &Residue::from_limbs(&BASE_Y))
     }
 
-    /// The double.
-    pub fn double(&self) -> Self
-        ensures { result ≡ double self.now }
+    /// The same point.
+    pub fn copy(&self) -> Self
+        ensures { result ≡ self.now }
     {
-        let a = self.x.product(&self.x);
-        let b = self.y.product(&self.y);
-        let zz = self.z.product(&self.z);
+        EdwardsPoint {
+            x: self.x.copy(),
+            y: self.y.copy(),
+            z: self.z.copy(),
+            t: self.t.copy(),
+        }
+    }
+
+    /// The last products of both formulas: E F, G H, F G and E H.
+    #[inline(always)]
+    fn complete(
+        &mut self,
+        e: &Residue<Prime25519>,
+        f: &Residue<Prime25519>,
+        g: &Residue<Prime25519>,
+        h: &Residue<Prime25519>,
+    )
+        ensures { self.new ≡ completion e.now f.now g.now h.now }
+    {
+        self.x = e.product(f);
+        self.y = g.product(h);
+        self.z = f.product(g);
+        self.t = e.product(h);
+    }
+
+    /// Turns the point into its double.
+    pub fn double(&mut self)
+        ensures { self.new ≡ double self.old }
+    {
+        let a = self.x.square();
+        let b = self.y.square();
+        let zz = self.z.square();
         let h = a.sum(&b);
         let s = self.x.sum(&self.y);
         let g = a.difference(&b);
         let c = zz.sum(&zz);
-        let square = s.product(&s);
+        let square = s.square();
         let e = h.difference(&square);
         let f = c.sum(&g);
-        completion(&e, &f, &g, &h)
+        self.complete(&e, &f, &g, &h);
     }
 
     /// What of the point is computed once where it is added.
@@ -149,9 +159,9 @@ impl EdwardsPoint {
         }
     }
 
-    /// The sum.
-    pub fn sum(&self, other: &Addend) -> Self
-        ensures { result ≡ sum_by self.now other.now }
+    /// Turns the point into its sum with another.
+    pub fn add(&mut self, other: &Addend)
+        ensures { self.new ≡ sum_by self.old other.now }
     {
         let y_less = self.y.difference(&self.x);
         let y_more = self.y.sum(&self.x);
@@ -163,16 +173,18 @@ impl EdwardsPoint {
         let f = m.difference(&c);
         let g = m.sum(&c);
         let h = b.sum(&a);
-        completion(&e, &f, &g, &h)
+        self.complete(&e, &f, &g, &h);
     }
 
-    /// The double, and the sum of it and a point where `is_odd`.
-    fn step(&self, addend: &Addend, is_odd: bool) -> Self
-        ensures even { is_odd ≡ false → result ≡ double self.now }
-        ensures odd { is_odd ≡ true → result ≡ sum_by (double self.now) addend.now }
+    /// Turns the point into its double, and adds another where `is_odd`.
+    fn step(&mut self, addend: &Addend, is_odd: bool)
+        ensures even { is_odd ≡ false → self.new ≡ double self.old }
+        ensures odd { is_odd ≡ true → self.new ≡ sum_by (double self.old) addend.now }
     {
-        let twice = self.double();
-        if is_odd { twice.sum(addend) } else { twice }
+        self.double();
+        if is_odd {
+            self.add(addend);
+        }
     }
 
     /// The multiple.
@@ -185,7 +197,7 @@ impl EdwardsPoint {
         for _i in 0..Limbs4::BITS {
             let (next, bit) = Limbs4::doubled(&rest);
             rest = next;
-            total = total.step(&addend, bit == 1);
+            total.step(&addend, bit == 1);
         }
         total
     }

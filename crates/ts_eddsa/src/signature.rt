@@ -9,8 +9,8 @@ ghost use Rattle.ts_eddsa.specs.Signature.{challenge, IsEd25519Signature};
 ghost use Rattle.ts_eddsa.specs.Tests.{holds, is_ed25519_signature_of};
 
 use crate::decode::decode;
-use crate::field::Order25519;
 use crate::number::{limbs_from_little, remainder_of_little};
+use crate::order::Order25519;
 use crate::point::EdwardsPoint;
 use ts_curve::{Limbs, Limbs4, Modulus, Residue};
 use ts_digest::{Hash, hash_of_parts};
@@ -29,7 +29,8 @@ fn is_solved(a: &EdwardsPoint, r: &EdwardsPoint, s: &Limbs4, k: &Limbs4) -> bool
     ensures { result ≡ holds (Some a.now) (Some r.now) (number4 s.now) (number4 k.now) }
 {
     let left = EdwardsPoint::base().multiple(s);
-    let right = r.sum(&a.multiple(k).addend());
+    let mut right = r.copy();
+    right.add(&a.multiple(k).addend());
     left.is_equal(&right)
 }
 

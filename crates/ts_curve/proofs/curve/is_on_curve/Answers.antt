@@ -20,15 +20,15 @@ returns g c =
     let b : c.from_limbs-b.result ≡ q.b =
     c.from_limbs-b.ensures ∙ (rw (c.b.ensures, e)
     (mod-eq_of_lt g.met.C.DomainParameters.b_is_below)) in
-    let left : c.product-left.result ≡ mul q.prime c.args.y.now c.args.y.now =
-    rw (c.product-left.ensures, c.copy-second.ensures.same, e) refl in
+    let left : c.square-left.result ≡ mul q.prime c.args.y.now c.args.y.now =
+    rw (c.square-left.ensures, c.copy-second.ensures.same, e) refl in
     let right : c.sum-right.result ≡ right_side q c.args.x.now =
     rw (
       c.sum-right.ensures,
       c.sum-sum.ensures,
       c.product-line.ensures,
       c.product-cube.ensures,
-      c.product-square.ensures,
+      c.square-square.ensures,
       c.copy-first.ensures.same,
       a,
       b,

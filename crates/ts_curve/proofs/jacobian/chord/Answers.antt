@@ -15,10 +15,10 @@ returns-clause-coordinates g c =
       c.difference-x3.ensures,
       c.difference-left.ensures,
       c.sum-vv.ensures,
-      c.product-rr.ensures,
+      c.square-rr.ensures,
       c.product-v.ensures,
       c.product-hhh.ensures,
-      c.product-hh.ensures,
+      c.square-hh.ensures,
       c.difference-r.ensures,
       c.difference-h.ensures,
     )

@@ -13,8 +13,9 @@ returns c =
     let m = multiple 256 (number4 c.args.k.now) c.args.a.now in
     let left : c.multiple-left.result ≡ multiple 256 s base =
     c.multiple-left.ensures ∙ ap (multiple 256 s) c.base.ensures in
-    let right : c.sum-right.result ≡ sum r m =
-    c.sum-right.ensures ∙ ap (sum_by r) (c.addend.ensures ∙ ap addend_of c.multiple.ensures)
+    let right : c.add.new.self ≡ sum r m =
+    c.add.ensures ∙ ap (λ q. sum_by q c.addend.result) c.copy-right.ensures
+    ∙ ap (sum_by r) (c.addend.ensures ∙ ap addend_of c.multiple.ensures)
     ∙ sum_is r m in
-    c.is_equal.ensures ∙ ap (λ q. are_equal q c.sum-right.result) left
+    c.is_equal.ensures ∙ ap (λ q. are_equal q c.add.new.self) left
     ∙ ap (are_equal (multiple 256 s base)) right

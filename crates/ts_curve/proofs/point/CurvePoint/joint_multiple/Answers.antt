@@ -43,7 +43,7 @@ loop-i-preserved g c =
         2 * j + d,
         eu,
         ev,
-        c.step-total.ensures
+        (rw (c.addend-g.ensures, c.addend-q.ensures) at c.step.ensures)
             ∙ ap (λ k. with_bits p (p - 3) (eqb b 1) (eqb d 1) f q (double p (p - 3) k)) inv.4
             ∙ sym (joint_step p (p - 3) i h j (2 * h + b) (2 * j + d) b d f q
             c.doubled-next_u.ensures.bit c.doubled-next_v.ensures.bit refl refl),

@@ -18,6 +18,6 @@ returns-clause-found g c =
     let i = inverse p t.z in
     let n : t.z ≢ 0 = λ k. false≢true (c.if-is_equal.ensures.1 (k ∙ sym c.zero.ensures)) in (
       mul p t.y (mul p i (mul p i i)),
-      rw (c.product-2.ensures, c.product.ensures, c.inverse-inverse.ensures)
+      rw (c.product.ensures, c.square.ensures, c.inverse-inverse.ensures)
           (sym c.self.view_is ∙ view_is p t.x t.y t.z n),
     )

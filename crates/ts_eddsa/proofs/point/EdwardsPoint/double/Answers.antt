@@ -7,15 +7,15 @@ unfolding double
 returns c =
     rw (
       ← c.self.view_is,
-      c.completion.ensures,
+      c.complete.ensures,
       c.sum-f.ensures,
       c.difference-e.ensures,
-      c.product-square.ensures,
+      c.square-square.ensures,
       c.sum-c.ensures,
       c.difference-g.ensures,
       c.sum-s.ensures,
       c.sum-h.ensures,
-      c.product-zz.ensures,
-      c.product-b.ensures,
-      c.product-a.ensures,
+      c.square-zz.ensures,
+      c.square-b.ensures,
+      c.square-a.ensures,
     ) refl

@@ -29,12 +29,12 @@ loop-i-preserved c =
         e,
         elim (cases_eq bit 1) [
           | inl one ↦
-              c.step-total.ensures.odd (eq-eqb bit 1 one)
+              c.step.ensures.odd (eq-eqb bit 1 one)
               ∙ ap (λ v. sum_by (double v) c.addend-addend.result) inv.2
               ∙ ap (λ v. sum_by (double (multiple i h q)) v) c.addend-addend.ensures
               ∙ sym (multiple_odd i h (2 * h + bit) q (ap (λ v. 2 * h + v) one))
           | inr other ↦
-              c.step-total.ensures.even (ne_eqb bit 1 other)
+              c.step.ensures.even (ne_eqb bit 1 other)
               ∙ ap double inv.2
               ∙ sym (multiple_even i h (2 * h + bit) q
               (let zero : bit ≡ 0 = omega (arith, c.doubled-bit.ensures.bit, other) in
