@@ -68,12 +68,7 @@ fn text_of<'a>(algorithm: &[u8], signed: &Message<'a>) -> SignedText<'a>
 }
 
 /// How many octets the parts of a question have.
-fn size_of(
-    algorithm: &[u8],
-    key: &WorkingKey<'_>,
-    text: SignedText<'_>,
-    signature: &[u8],
-) -> usize
+fn size_of(algorithm: &[u8], key: &WorkingKey<'_>, text: SignedText<'_>, signature: &[u8]) -> usize
     ensures { result < 2 ^ 32
         → Fits algorithm.now (key_of key.now) text.entry.octets.now signature.now }
 {

@@ -14,8 +14,7 @@ pub returns : goal.returns
 returns g c =
     let n = g.C.DomainParameters.curve.order in
     let p = c.args.point.now in
-    let r = c.args.r.now in
-    (
+    let r = c.args.r.now in (
       λ h. first_to n r p (c.has_scalar.ensures.0 h),
       λ h. c.has_scalar.ensures.1 (first_from n r p h),
     )
