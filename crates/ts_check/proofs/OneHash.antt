@@ -61,6 +61,7 @@ pub one_hash : (identifier : List ℕ) (hash : Hash) (key : Key) (a b signature 
 unfolding native_accepts hash_named
 one_hash identifier hash key a b signature is e = by_option (algorithm_named identifier) is
   where
-    by_option : (o : Option SignatureAlgorithm) → option_and_then hash_by o ≡ Some hash → holds_of o (λ algorithm. takes algorithm key a signature) ≡ holds_of o (λ algorithm. takes algorithm key b signature)
+    by_option : (o : Option SignatureAlgorithm) → option_and_then hash_by o ≡ Some hash
+        → holds_of o (λ algorithm. takes algorithm key a signature) ≡ holds_of o (λ algorithm. takes algorithm key b signature)
     by_option None is = absurd (none_is_some hash is)
     by_option (Some algorithm) is = by_one algorithm hash key a b signature is e

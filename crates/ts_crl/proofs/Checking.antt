@@ -31,12 +31,14 @@ out-of-memory octets (Ok parts) is none = absurd is
 out-of-memory octets (Err e) is none = subst (λ (f : OwnedCrlFault). Checks octets (Err f)) (sym is) none
 
 -- the same answer, for a list that would be kept
-pub not-kept : (octets : List ℕ) (e : OwnedCrlFault) (r : Result (List ℕ) OwnedCrlFault) → Checks octets (Err e) → IsErrAnd r (λ f. f ≡ e) → crl_fault octets ≡ None → (r ≡ Ok octets) ⊎ (r ≡ Err Memory)
+pub not-kept : (octets : List ℕ) (e : OwnedCrlFault) (r : Result (List ℕ) OwnedCrlFault)
+    → Checks octets (Err e) → IsErrAnd r (λ f. f ≡ e) → crl_fault octets ≡ None → (r ≡ Ok octets) ⊎ (r ≡ Err Memory)
 not-kept octets e (Ok kept) checks is none = absurd is
 not-kept octets Memory (Err f) checks is none = inr (ap (λ (g : OwnedCrlFault). Err g) is)
 not-kept octets (Unreadable fault) (Err f) checks is none = absurd (none-some (fault_in fault) (sym none ∙ faulted octets (fault_in fault) checks))
 
-pub refused : (octets : List ℕ) (e : OwnedCrlFault) (r : Result (List ℕ) OwnedCrlFault) → Checks octets (Err e) → IsErrAnd r (λ f. f ≡ e) → (f : ListFault) → crl_fault octets ≡ Some f → IsErrAnd r (λ g. unreadable_in g ≡ Some f)
+pub refused : (octets : List ℕ) (e : OwnedCrlFault) (r : Result (List ℕ) OwnedCrlFault)
+    → Checks octets (Err e) → IsErrAnd r (λ f. f ≡ e) → (f : ListFault) → crl_fault octets ≡ Some f → IsErrAnd r (λ g. unreadable_in g ≡ Some f)
 refused octets e (Ok kept) checks is f some = absurd is
 refused octets Memory (Err g) checks is f some = absurd (none-some f (sym checks ∙ some))
 refused octets (Unreadable fault) (Err g) checks is f some = ap unreadable_in is ∙ (sym (faulted octets (fault_in fault) checks) ∙ some)

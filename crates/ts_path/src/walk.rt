@@ -68,7 +68,8 @@ impl<'a> Walk<'a> {
         context: &Context<'_, '_, 'a, S>,
         length: u8,
     ) -> Result<Walk<'a>, AllocError>
-        ensures state { IfOk result (λ w. w.state ≡ state_at (asked_by S.accepts context.now) length []) }
+        ensures state { IfOk result (λ w. w.state
+            ≡ state_at (asked_by S.accepts context.now) length []) }
         ensures policies { IfOk result
             (λ w. w.policies ≡ record { certificates = []; mapped = true }) }
     {
