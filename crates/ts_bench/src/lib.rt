@@ -1,14 +1,15 @@
-//! What the benchmark in `bench/` calls: the readers of certificates and of lists, as a static
-//! library for programs that are not Rattle. No other crate depends on this one.
+//! What the benchmarks in `bench/` call: the readers of certificates and of CRLs and the check of
+//! signatures, as a static library for programs that are not Rattle. No other crate depends on this
+//! one.
 //!
 //! ```text
 //! ts_bench_read(octets, length);                  // called from C, as the benchmark links it
 //! ```
 //!
-//! A static library with three functions: `ts_bench_read` and `ts_bench_read_list` answer the
-//! number of the first rule that octets break as a certificate or as a list, 0 where they break
-//! none, and its place; `ts_bench_find` whether a list has an entry of a serial number. Not tested;
-//! the gate only proves it.
+//! A static library with four functions: `ts_bench_read` and `ts_bench_read_list` answer the
+//! number of the first rule that octets break as a certificate or as a CRL, 0 where they break
+//! none, and its place; `ts_bench_find` whether a CRL has an entry of a serial number;
+//! `ts_bench_check` whether a signature is good. Not tested; the gate only proves it.
 #![tactic(auto)]
 
 ghost use Rattle.std.specs.Prelude.{◌≡◌, Some};
@@ -17,10 +18,15 @@ ghost use Rattle.ts_crl.specs.Fault.{fault_in};
 ghost use Rattle.ts_crl.specs.Table.{crl_fault, crl_of};
 ghost use Rattle.ts_bench.specs.Told.{rule_number, place_of, list_rule_number, list_place_of};
 ghost use Rattle.ts_bench.specs.Told.{is_listed};
+ghost use Rattle.ts_bench.specs.Keys.{key_with};
+ghost use Rattle.ts_check.specs.Native.{native_accepts};
 
 use ts_cert::Cert;
+use ts_check::NativeCheck;
 use ts_crl::{Crl, CrlFault};
 use ts_der::Integer;
+use ts_digest::Message;
+use ts_sig::{SignatureCheck, WorkingKey};
 
 /// What reading answered, in numbers.
 #[repr(C)]
@@ -83,4 +89,32 @@ pub extern "C" fn ts_bench_find(octets: &[u8], serial: &[u8]) -> bool
         Ok(crl) => crl.entry(Integer { octets: serial }).is_some(),
         Err(_) => false,
     }
+}
+
+/// Whether [`NativeCheck`] takes a signature. The algorithm is a whole AlgorithmIdentifier; of the
+/// key there are the content of its algorithm's OBJECT IDENTIFIER, the whole element of its
+/// parameters, which is empty where there are none, and its own octets.
+#[unsafe(no_mangle)]
+pub extern "C" fn ts_bench_check(
+    algorithm: &[u8],
+    key_algorithm: &[u8],
+    key_parameters: &[u8],
+    key: &[u8],
+    signed: &[u8],
+    signature: &[u8],
+) -> bool
+    ensures { result ≡ native_accepts algorithm.now
+        (key_with key_algorithm.now key_parameters.now key.now) signed.now signature.now }
+{
+    let parameters = if key_parameters.is_empty() {
+        None
+    } else {
+        Some(key_parameters)
+    };
+    let key = WorkingKey {
+        algorithm: key_algorithm,
+        parameters,
+        octets: key,
+    };
+    NativeCheck.good(algorithm, &key, &Message::of(signed), signature)
 }
