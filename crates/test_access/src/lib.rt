@@ -1,5 +1,5 @@
-//! Tests of tags, of sealed records, of keys, and of connections with keys and roles, over the public
-//! calls of their crates.
+//! Tests of tags, of sealed records, of keys, and of connections with keys and roles, over the
+//! public calls of their crates.
 //!
 //! In a crate of their own they are proved alone: a crate with tests is proved once more with them.
 #![tactic(auto)]

@@ -71,8 +71,8 @@ fn one_append(rt: HostRuntime) -> Result<(), Fail> {
     Ok(())
 }
 
-/// What a new node of so many comes to by a command and a second input, which it takes in memory and
-/// then keeps.
+/// What a new node of so many comes to by a command and a second input, which it takes in memory
+/// and then keeps.
 fn staged_of(alloc: Global, nodes: u8, second: &Input<Number, ()>) -> Result<Turn, AllocError>
     requires from { 1 ≤ nodes }
     requires few { nodes ≤ 9 }

@@ -1,5 +1,5 @@
-//! Tests of signatures, over the public calls of their crates: each algorithm, the checks of a table
-//! and of the stand-in, and whole certificates.
+//! Tests of signatures, over the public calls of their crates: each algorithm, the checks of a
+//! table and of the stand-in, and whole certificates.
 //!
 //! In a crate of their own they are proved alone: a crate with tests is proved once more with them.
 #![tactic(auto)]

@@ -4,7 +4,7 @@ pub mod Judged
 pub mod Settled
 pub mod OneReply
 pub mod Purposes
-pub mod Lent
+pub mod Borrowed
 pub mod Pairs
 pub mod Cached
 pub mod Entries

@@ -11,7 +11,7 @@ ghost use Rattle.ts_answer.specs.inside.Trusted.{trusted_in};
 use crate::trusted::TrustedAnchor;
 use std::alloc::{AllocError, Global};
 use ts_crl::Crl;
-use ts_history::LentAnchor;
+use ts_history::BorrowedAnchor;
 use ts_path::Anchor;
 use ts_store::StoredCrl;
 
@@ -31,7 +31,10 @@ pub(crate) fn lists_of<'a>(
 }
 
 /// The anchor of this id, if it is in the store.
-pub(crate) fn anchor_of<'a>(anchors: &[LentAnchor<'a>], id: &[u8; 32]) -> Option<LentAnchor<'a>>
+pub(crate) fn anchor_of<'a>(
+    anchors: &[BorrowedAnchor<'a>],
+    id: &[u8; 32],
+) -> Option<BorrowedAnchor<'a>>
     ensures { option_map lent_in result ≡ with_id id.now (map lent_in anchors.now) }
 {
     for anchor in anchors {
@@ -45,7 +48,7 @@ pub(crate) fn anchor_of<'a>(anchors: &[LentAnchor<'a>], id: &[u8; 32]) -> Option
 /// The anchors of the store, borrowed. No certificate is read again.
 pub(crate) fn trusted_of<'a>(
     alloc: Global,
-    stored: &[LentAnchor<'a>],
+    stored: &[BorrowedAnchor<'a>],
 ) -> Result<Vec<TrustedAnchor<'a>>, AllocError>
     ensures { IfOk result (λ trusted. map trusted_in trusted.items
         ≡ map trust_anchor (map lent_in stored.now)) }

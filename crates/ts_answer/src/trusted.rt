@@ -7,7 +7,7 @@ ghost use Rattle.ts_answer.specs.Asked.{trust_anchor};
 
 use std::alloc::{AllocError, Global};
 use ts_cert::Cert;
-use ts_history::LentAnchor;
+use ts_history::BorrowedAnchor;
 use ts_path::Anchor;
 use ts_store::MAX_PURPOSES;
 
@@ -26,7 +26,7 @@ impl<'a> TrustedAnchor<'a> {
     ghost use Rattle.ts_answer.specs.inside.Trusted.{purposes_in, trusted_in};
 
     /// An anchor of the store. Its certificate is not read again.
-    pub fn of(stored: LentAnchor<'a>) -> TrustedAnchor<'a>
+    pub fn of(stored: BorrowedAnchor<'a>) -> TrustedAnchor<'a>
         ensures { trusted_in result ≡ trust_anchor (lent_in stored.entry) }
     {
         let cert = stored.certificate.view();

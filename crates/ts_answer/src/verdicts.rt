@@ -11,7 +11,7 @@ ghost use Rattle.ts_answer.specs.Reply.{malformed_reply as malformed_of};
 
 use std::alloc::{AllocError, Global};
 use ts_der::{Oid, OidRef};
-use ts_history::LentAnchor;
+use ts_history::BorrowedAnchor;
 use ts_path::Verdict;
 use ts_question::{Oids, Places, Reply};
 use ts_search::SearchAnswer as SearchAnswer;
@@ -76,7 +76,7 @@ fn places_of(alloc: Global, chain: &[u8]) -> Result<Places, AllocError>
 }
 
 /// The id of the anchor of this number.
-fn id_at(anchors: &[LentAnchor<'_>], number: usize) -> [u8; 32]
+fn id_at(anchors: &[BorrowedAnchor<'_>], number: usize) -> [u8; 32]
     requires { number < length anchors.now }
     ensures { slice_get (map (λ a. a.id) (map lent_in anchors.now)) number ≡ Some result }
 {
@@ -86,7 +86,7 @@ fn id_at(anchors: &[LentAnchor<'_>], number: usize) -> [u8; 32]
 /// An answer of a search under these anchors, as a reply.
 pub(crate) fn reply_of_search(
     alloc: Global,
-    anchors: &[LentAnchor<'_>],
+    anchors: &[BorrowedAnchor<'_>],
     answer: SearchAnswer<'_>,
 ) -> Result<Reply, AllocError>
     requires { IsAmong (length anchors.now) answer }

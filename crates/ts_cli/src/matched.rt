@@ -94,7 +94,7 @@ pub(crate) fn number_at(
     }
 }
 
-/// The number that an argument gives, from `least` to `most`; where it gives none, the one for that.
+/// The number that an argument gives, from `least` to `most`; where it gives none, the default.
 pub(crate) fn number_or(
     matches: &ArgMatches<'_>,
     id: &str,

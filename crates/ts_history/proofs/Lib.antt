@@ -1,3 +1,3 @@
-pub mod Lent
+pub mod Borrowed
 pub mod Applied
 pub mod Replays

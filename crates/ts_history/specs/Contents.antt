@@ -3,7 +3,7 @@ use Rattle.std.specs.Prelude.{List, []}
 use Rattle.ts_store.specs.Tables.{Tables}
 use Rattle.ts_store.specs.declared.anchor.TrustAnchor.{TrustAnchor}
 use Rattle.ts_store.specs.declared.stored.StoredCrl.{StoredCrl}
-use Rattle.ts_history.specs.declared.snapshot.LentAnchor.{LentAnchor}
+use Rattle.ts_history.specs.declared.snapshot.BorrowedAnchor.{BorrowedAnchor}
 
 pub record Contents : Type 0 where
   pub anchors : List TrustAnchor
@@ -21,6 +21,6 @@ contents_of tables = record {
   deltas = tables.deltas;
 }
 
--- a trust anchor that is lent
-abbrev pub anchor_in : LentAnchor → TrustAnchor
+-- a trust anchor that is borrowed
+abbrev pub anchor_in : BorrowedAnchor → TrustAnchor
 anchor_in a = record { id = a.id; certificate = a.certificate.now; purposes = a.purposes.now }

@@ -36,4 +36,4 @@ mod snapshot;
 mod taken;
 
 pub use history::History;
-pub use snapshot::{LentAnchor, Snapshot};
+pub use snapshot::{BorrowedAnchor, Snapshot};

@@ -14,7 +14,7 @@ use ts_store::{Command, Purposes, StoredCrl, Tables, TrustAnchor};
 
 /// A borrowed trust anchor: the SHA-256 of its certificate, the certificate, and its purposes.
 #[derive(Clone, Copy)]
-pub struct LentAnchor<'a> {
+pub struct BorrowedAnchor<'a> {
     pub id: [u8; 32],
     pub certificate: &'a OwnedCert,
     pub purposes: &'a Purposes,
@@ -23,7 +23,7 @@ pub struct LentAnchor<'a> {
 /// The tables of a store, borrowed: nothing of them is copied or read again.
 #[derive(Drop)]
 pub struct Snapshot<'a> {
-    anchors: Vec<LentAnchor<'a>>,
+    anchors: Vec<BorrowedAnchor<'a>>,
     complete: Vec<&'a StoredCrl>,
     deltas: Vec<&'a StoredCrl>,
 }
@@ -42,10 +42,10 @@ impl<'a> Model for Snapshot<'a> {
 }
 
 /// A trust anchor, borrowed.
-fn lent(anchor: &TrustAnchor) -> LentAnchor<'_>
+fn borrow_anchor(anchor: &TrustAnchor) -> BorrowedAnchor<'_>
     ensures { anchor_in result ≡ anchor.now }
 {
-    LentAnchor {
+    BorrowedAnchor {
         id: anchor.id,
         certificate: &anchor.certificate,
         purposes: &anchor.purposes,
@@ -53,12 +53,12 @@ fn lent(anchor: &TrustAnchor) -> LentAnchor<'_>
 }
 
 /// The anchors of a table, borrowed.
-fn anchors_of(alloc: Global, anchors: &[TrustAnchor]) -> Result<Vec<LentAnchor<'_>>, AllocError>
+fn anchors_of(alloc: Global, anchors: &[TrustAnchor]) -> Result<Vec<BorrowedAnchor<'_>>, AllocError>
     ensures { IfOk result (λ all. map anchor_in all.items ≡ anchors.now) }
 {
     let mut all = Vec::new(alloc);
     for anchor in anchors {
-        all.push(lent(anchor))?;
+        all.push(borrow_anchor(anchor))?;
     }
     Ok(all)
 }
@@ -76,20 +76,20 @@ fn crls_of(alloc: Global, lists: &[StoredCrl]) -> Result<Vec<&StoredCrl>, AllocE
 
 /// Adds the anchor of a command as the last one.
 fn add_anchor<'a>(
-    anchors: &mut Vec<LentAnchor<'a>>,
+    anchors: &mut Vec<BorrowedAnchor<'a>>,
     kept: &'a KeptCommand,
 ) -> Result<(), AllocError>
     ensures { OnOk result (map anchor_in anchors.new.items
         ≡ with_anchor kept.now (map anchor_in anchors.old.items)) }
 {
     if let KeptCommand::Anchor { anchor, .. } = kept {
-        anchors.push(lent(anchor))?;
+        anchors.push(borrow_anchor(anchor))?;
     }
     Ok(())
 }
 
 /// Removes the anchor at a place.
-fn remove_anchor(anchors: &mut Vec<LentAnchor<'_>>, at: usize)
+fn remove_anchor(anchors: &mut Vec<BorrowedAnchor<'_>>, at: usize)
     ensures { map anchor_in anchors.new.items ≡ remove (map anchor_in anchors.old.items) at }
 {
     if at < anchors.len() {
@@ -98,7 +98,7 @@ fn remove_anchor(anchors: &mut Vec<LentAnchor<'_>>, at: usize)
 }
 
 /// Gives the anchor at a place the purposes that a command sets.
-fn set_purposes<'a>(anchors: &mut Vec<LentAnchor<'a>>, at: usize, command: &'a Command)
+fn set_purposes<'a>(anchors: &mut Vec<BorrowedAnchor<'a>>, at: usize, command: &'a Command)
     ensures { map anchor_in anchors.new.items
         ≡ with_purposes_of command.now at (map anchor_in anchors.old.items) }
 {
@@ -110,7 +110,7 @@ fn set_purposes<'a>(anchors: &mut Vec<LentAnchor<'a>>, at: usize, command: &'a C
 }
 
 /// Gives the anchor at a place the purposes of a command.
-fn set_purposes_in<'a>(anchors: &mut Vec<LentAnchor<'a>>, at: usize, kept: &'a KeptCommand)
+fn set_purposes_in<'a>(anchors: &mut Vec<BorrowedAnchor<'a>>, at: usize, kept: &'a KeptCommand)
     ensures { map anchor_in anchors.new.items
         ≡ with_purposes_in kept.now at (map anchor_in anchors.old.items) }
 {
@@ -212,7 +212,7 @@ impl<'a> Snapshot<'a> {
     }
 
     /// The trust anchors, in their order.
-    pub fn anchors(&self) -> &[LentAnchor<'a>]
+    pub fn anchors(&self) -> &[BorrowedAnchor<'a>]
         ensures { map anchor_in result.now ≡ self.now.anchors }
     {
         self.anchors.as_slice()

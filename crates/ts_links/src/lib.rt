@@ -6,7 +6,7 @@
 //! let slot = table.open(now);                          // a closed one, or None
 //! table.arrive(slot, piece, now)?;                     // octets came
 //! table.take(slot, &mut server, now)?;                 // the first frame is taken and answered
-//! server.keep();                                       // what came of it is kept on disk
+//! server.keep();                                       // what followed from it is kept on disk
 //! let octets = table.waiting(slot);                    // what waits, and may be written now
 //! table.leave(slot, count, now);                       // so much of it was
 //! table.close(slot);

@@ -25,7 +25,7 @@ pub trait Service {
     /// From the first state a request is answered so, on the way to the second.
     ghost turn: { Self → Request → List Request → Self → Type 0 };
 
-    /// What was answered may leave: what came of it is on disk.
+    /// What was answered may leave: what followed from it is on disk.
     ghost is_kept: { Self → Type 0 };
 
     /// From the first state to the second it has tried to keep what was answered.
@@ -43,8 +43,8 @@ pub trait Service {
         ensures answers { AnswersFrame turn self.old frame result self.new }
         ensures ready { is_ready self.new };
 
-    /// Keeps what came of the requests that were answered, so that the answers may leave. `false`
-    /// where it failed: nothing that was answered since the last time may leave then.
+    /// Keeps what followed from the requests that were answered, so that the answers may leave.
+    /// `false` where it failed: nothing that was answered since the last time may leave then.
     fn keep(&mut self) -> bool
         requires ready { is_ready self.old }
         ensures keeps { keeps self.old self.new }

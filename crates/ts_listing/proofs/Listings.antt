@@ -5,7 +5,7 @@ use Rattle.std.specs.Borrow.{Bor}
 use Rattle.ts_store.specs.declared.anchor.TrustAnchor.{TrustAnchor}
 use Rattle.ts_store.specs.declared.stored.StoredCrl.{StoredCrl}
 use Rattle.ts_history.specs.Contents.{Contents, anchor_in}
-use Rattle.ts_history.specs.declared.snapshot.LentAnchor.{LentAnchor}
+use Rattle.ts_history.specs.declared.snapshot.BorrowedAnchor.{BorrowedAnchor}
 use Rattle.ts_question.specs.declared.reply.Reply.TheVariants.{Page}
 use Rattle.ts_question.specs.Rows.{anchor_encoding, crl_encoding}
 use Rattle.ts_listing.specs.Listing.{anchor_row, anchor_rows, crl_row, crl_rows, narrow, store_rows}
@@ -85,13 +85,13 @@ list_in c = c.now
 
 -- what the tables lend, and the windows of it that are written one after another
 pub record IsWritten (contents : Contents) (from total : ℕ) (rows : List (List ℕ)) : Type 0 where
-  pub anchors : List LentAnchor
+  pub anchors : List BorrowedAnchor
   pub complete : List (Bor StoredCrl)
   pub deltas : List (Bor StoredCrl)
   pub anchors_are : map anchor_in anchors ≡ contents.anchors
   pub complete_are : map list_in complete ≡ contents.complete
   pub deltas_are : map list_in deltas ≡ contents.deltas
-  pub first_anchors : List LentAnchor
+  pub first_anchors : List BorrowedAnchor
   pub first_complete : List (Bor StoredCrl)
   pub first_deltas : List (Bor StoredCrl)
   pub row1 : List (List ℕ)

@@ -11,12 +11,12 @@ use crate::digests::is_digest;
 use crate::page::{MAX_ROWS, cut, total_of, window};
 use crate::purposes::purposes_octets;
 use std::alloc::{AllocError, Global};
-use ts_history::{LentAnchor, Snapshot};
+use ts_history::{BorrowedAnchor, Snapshot};
 use ts_question::{AnchorRow, OctetStrings, Reply};
 use ts_store::StoredCrl;
 
 /// The octets of the row of an anchor.
-fn anchor_octets(alloc: Global, anchor: &LentAnchor<'_>) -> Result<Vec<u8>, AllocError>
+fn anchor_octets(alloc: Global, anchor: &BorrowedAnchor<'_>) -> Result<Vec<u8>, AllocError>
     ensures { IfOk result (λ octets. octets.items
         ≡ anchor_encoding (anchor_row (anchor_in anchor.now))) }
 {
@@ -36,7 +36,7 @@ fn anchor_octets(alloc: Global, anchor: &LentAnchor<'_>) -> Result<Vec<u8>, Allo
 fn push_anchors(
     alloc: Global,
     rows: &mut OctetStrings,
-    anchors: &[LentAnchor<'_>],
+    anchors: &[BorrowedAnchor<'_>],
 ) -> Result<(), AllocError>
     ensures { OnOk result (rows.new ≡ rows.old ++ anchor_rows (map anchor_in anchors.now)) }
 {

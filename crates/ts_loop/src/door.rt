@@ -144,7 +144,7 @@ pub(crate) fn read_once(
 
 /// Writes octets once. How many were taken, and `None` where the connection failed. All that a loop
 /// writes on a socket passes here, and so whoever writes has a service that has kept on disk what
-/// came of all requests that it answered.
+/// followed from all requests that it answered.
 pub(crate) fn write_some<S: Service>(
     _kept: &S,
     stream: &mut TcpStream,

@@ -12,15 +12,15 @@
 //!
 //! A round waits for events, at most 50 ms; accepts what waits; then visits each connection that
 //! has something to do: one read, and at most 64 requests, from the slot on that is behind the one
-//! whose command was taken last. What came of all of these is kept on disk by one append, and then
-//! each connection is written once. So no client keeps another from being answered for longer than
-//! a round takes, and of several that submit each has its turn. A connection that is late
+//! whose command was taken last. What followed from all of these is kept on disk by one append, and
+//! then each connection is written once. So no client keeps another from being answered for longer
+//! than a round takes, and of several that submit each has its turn. A connection that is late
 //! (`ts_links`) is closed. Where all slots are taken, the connection that has been idle longest
 //! makes room for a new one, or, where keys are wanted, the one that has shown none for the longest
 //! time; where there is none, the new one is closed. An `accept` that fails is counted, and tried
-//! again after 100 ms. After a wrong frame its answer is written, the writing side is
-//! ended, and what still comes is read and dropped until the client ends or the time is over: else
-//! the system could take the answer away.
+//! again after 100 ms. After a wrong frame its answer is written, the writing side is ended, and
+//! what still comes is read and dropped until the client ends or the time is over: else the system
+//! could take the answer away.
 //!
 //! Where keys are wanted, a lock stands between a socket and its connection (`ts_access`): what
 //! comes is handed on as the key's role may ask it, what leaves is sealed. A connection that shows
@@ -33,20 +33,21 @@
 //! requests each, and one write once all is kept.
 //!
 //! With a group the loop is also a client of its own node: on a connection without a socket it
-//! takes the node's messages, hands the node those to itself at once (which it gives only beyond the
-//! bounds of a turn), and puts the others on a line to each peer, which
-//! is dialed again where it breaks (`ts_carrier`). While a command of a client is under way no
-//! other is taken; it is proposed again where its round was lost. Standard error is told of each
-//! command that was chosen: its position, kind, outcome and id.
+//! takes the node's messages, hands the node those to itself at once (which it gives only beyond
+//! the bounds of a turn), and puts the others on a line to each peer, which is dialed again where
+//! it breaks (`ts_carrier`). While a command of a client is under way no other is taken; it is
+//! proposed again where its round was lost. Standard error is told of each command that was chosen:
+//! its position, kind, outcome and id.
 //!
-//! A sync of the node's disks stops the round, and every connection waits for it. Where what came of
-//! a round can't be kept the loop ends, and nothing that was answered in it leaves.
+//! A sync of the node's disks stops the round, and every connection waits for it. Where what
+//! followed from a round can't be kept the loop ends, and nothing that was answered in it leaves.
 //!
 //! - [`serve_all`]: `served`: whatever the sockets give, in whatever pieces and order, only moves
-//!   of `ts_links` were made from connections of which none was open, and the server is after turns:
-//!   those of the requests that these moves take, in their order, and what it tried to keep between
-//!   them. So the law `ts_links::each_is_answered` speaks of each connection. `ahead`. All that is
-//!   written on a socket passes `write_some`, whose condition is that what was answered is kept.
+//!   of `ts_links` were made from connections of which none was open, and the server is after
+//!   turns: those of the requests that these moves take, in their order, and what it tried to keep
+//!   between them. So the law `ts_links::each_is_answered` speaks of each connection. `ahead`. All
+//!   that is written on a socket passes `write_some`, whose condition is that what was answered is
+//!   kept.
 //! - [`laws::each_speaks_for_itself`]: of the frames that `ts_access` hands on: a peer's key brings
 //!   messages of that peer to this node alone, and only an admin's brings a command.
 //! - [`Counts`]: what was done, for whoever watches.

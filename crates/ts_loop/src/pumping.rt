@@ -1,5 +1,5 @@
-//! What one round does at one slot: first it reads and takes requests, and once what came of them
-//! is kept on disk it writes.
+//! What one round does at one slot: first it reads and takes requests, and once what followed from
+//! them is kept on disk it writes.
 
 ghost use Rattle.ts_links.specs.Calls.{HasReached, IsQuiet};
 

@@ -48,8 +48,8 @@ pub(crate) fn report_of(
     text.push_str(line.as_str())?;
     add_peers(&mut text, alloc, shown.carrier.lines(), now)?;
     if let Some(meter) = shown.meter {
-        let (appends, syncs) = (meter.writes(), meter.syncs());
-        let line = format!(in alloc; "appends {appends} syncs {syncs}\n")?;
+        let (writes, syncs) = (meter.writes(), meter.syncs());
+        let line = format!(in alloc; "writes {writes} syncs {syncs}\n")?;
         text.push_str(line.as_str())?;
     }
     Ok(text)

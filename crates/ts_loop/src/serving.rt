@@ -357,8 +357,8 @@ impl Edge {
         self.take_web(rt, table, service, access, buffer, now);
     }
 
-    /// All that waits is written, since what came of it is kept: on the connections, on the lines
-    /// to the peers, and on the connections of HTTP.
+    /// All that waits is written, since what followed from it is kept: on the connections, on the
+    /// lines to the peers, and on the connections of HTTP.
     fn write<S: Service, R: Net + Eprint + RandomSource>(
         &mut self,
         rt: &R,
@@ -405,8 +405,8 @@ impl Edge {
         self.counts.over().saturating_add(web)
     }
 
-    /// One round: what is there is taken, what came of it is kept, by one append, and then what
-    /// waits is written.
+    /// One round: what is there is taken, what followed from it is kept, by one append, and then
+    /// what waits is written.
     ///
     /// # Errors
     ///
@@ -479,11 +479,11 @@ impl Edge {
 
 /// Serves an address to many connections at once, by one thread: each request is taken in its turn,
 /// and a connection that is slow, silent or reads nothing keeps no other from being answered. What
-/// came of all requests that were there at once is kept on disk by one append, and then they are
-/// answered. A connection's own fault ends it alone. Where the group says so messages are carried:
-/// the node's to itself at once, those to peers on a connection to each, which is made again where
-/// it breaks. While a command is under way no other is taken from a client. Where keys are wanted,
-/// what comes is handed on as `ts_access` lets it through.
+/// followed from all requests that were there at once is kept on disk by one append, and then they
+/// are answered. A connection's own fault ends it alone. Where the group says so messages are
+/// carried: the node's to itself at once, those to peers on a connection to each, which is made
+/// again where it breaks. While a command is under way no other is taken from a client. Where keys
+/// are wanted, what comes is handed on as `ts_access` lets it through.
 ///
 /// # Errors
 ///

@@ -100,8 +100,8 @@ fn plain(name: &'static str, help: &'static str, grows: bool, value: u64) -> Met
 
 /// Shows how often the node's disks were written and synced.
 fn show_disks(board: &mut Board, meter: &Meter) -> Result<(), AllocError> {
-    let help = "Appends to the node's record and other writes of its files";
-    board.show(plain("appends_total", help, true, meter.writes()))?;
+    let help = "Writes to the files of the node's record";
+    board.show(plain("writes_total", help, true, meter.writes()))?;
     let help = "Syncs of the files of the node's record";
     board.show(plain("syncs_total", help, true, meter.syncs()))
 }

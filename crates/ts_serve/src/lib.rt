@@ -10,24 +10,24 @@
 //! ```
 //!
 //! A request is a frame of kind 01 to 07 or 10 to 18 (`ts_wire`). Each but Take, Identify and
-//! Report is handed to the node as an input (`Node::handle`); or, where it is staged, the node takes
-//! it in memory, with its messages to itself, and what it keeps waits (`Node::stage`). The node's
-//! messages go to the outbox, where the first 256 that wait stay and others are lost, and the answer
-//! is the node's reply: Done 0, Started, Settled, Unknown, Prefix, Answer, Done 0 or 1 for a step of a
-//! rewrite, or NodeFault. Take is answered with the outbox's messages as frames and Done with their
-//! count, and the outbox is empty then; Identify with which node of which group it is; Report with
-//! the text that `note` was given last. A frame of kind 20 to 29 is no request: it is the fault
-//! Kind. A wrong frame is answered with FrameFault, and ends the stream.
+//! Report is handed to the node as an input (`Node::handle`); or, where it is staged, the node
+//! takes it in memory, with its messages to itself, and what it keeps waits (`Node::stage`). The
+//! node's messages go to the outbox, where the first 256 that wait stay and others are lost, and
+//! the answer is the node's reply: Done 0, Started, Settled, Unknown, Prefix, Answer, Done 0 or 1
+//! for a step of a rewrite, or NodeFault. Take is answered with the outbox's messages as frames and
+//! Done with their count, and the outbox is empty then; Identify with which node of which group it
+//! is; Report with the text that `note` was given last. A frame of kind 20 to 29 is no request: it
+//! is the fault Kind. A wrong frame is answered with FrameFault, and ends the stream.
 //!
 //! - [`Server::new`], [`Server::close`]: the node, given back too where memory is refused.
 //! - [`Server::answer_frame`]: one frame: the text of the answers of its turn, or why there is
 //!   none; [`refusal`]: the text for a wrong frame's fault.
-//! - [`Server::stage_frame`]: the same of a frame that is staged (`StagedTurn`, in the words of
-//!   `Node::stage`); [`Server::keep_staged`]: `kept`: what waits is kept by one append, or the node is
-//!   broken (`HasKept`, in the words of `Node::keep_staged`); `settled`: where it says so nothing
-//!   waits. `ts_links` serves many connections by these two.
-//! - [`Server::note`]: a text about the server, for whoever asks for a report. Contracts see nothing
-//!   of it: what it says is up to the loop that runs the server.
+//! - [`Server::stage_frame`]: the answers of one frame that is staged (`StagedTurn`, in the words
+//!   of `Node::stage`); [`Server::keep_staged`]: `kept`: what waits is kept by one append, or the
+//!   node is broken (`HasKept`, in the words of `Node::keep_staged`); `settled`: where it says so
+//!   nothing waits. `ts_links` serves many connections by these two.
+//! - [`Server::note`]: a text about the server, for whoever asks for a report. Contracts see
+//!   nothing of it: what it says is up to the loop that runs the server.
 //! - [`Server::has_failed`]: whether the node broke in a turn; each turn says so.
 //! - [`serve`]: `served`: where the reader tells its octets, what is written is the text of the
 //!   answers to the requests at the front of the stream, each a turn of the server (`specs/Turn`,

@@ -59,7 +59,7 @@ pub fn write_octets<W: Write>(writer: &mut W, octets: &[u8]) -> Result<(), Serve
 }
 
 /// Writes a borrowed answer.
-fn send_lent<W: Write>(alloc: Global, writer: &mut W, frame: &Frame) -> Result<(), ServeFault>
+fn send_borrowed<W: Write>(alloc: Global, writer: &mut W, frame: &Frame) -> Result<(), ServeFault>
     ensures sent { OnOk result (Appends (W.contents writer.old) (W.contents writer.new)
         (text (frame.now ∷ []))) }
     ensures front { OnErr result (AppendsFront (W.contents writer.old) (W.contents writer.new)
@@ -80,7 +80,7 @@ pub(crate) fn send<W: Write>(alloc: Global, writer: &mut W, frame: Frame) -> Res
     ensures fault { IfErr result (λ fault. (fault ≡ ServeFault.Write)
         ⊎ (fault ≡ ServeFault.Memory)) }
 {
-    let sent = send_lent(alloc, writer, &frame);
+    let sent = send_borrowed(alloc, writer, &frame);
     drop(frame);
     sent
 }
@@ -99,7 +99,7 @@ pub(crate) fn send_all<W: Write>(
         ⊎ (fault ≡ ServeFault.Memory)) }
 {
     for frame in frames {
-        send_lent(alloc, writer, frame)?;
+        send_borrowed(alloc, writer, frame)?;
     }
     Ok(())
 }

@@ -175,7 +175,7 @@ fn with_upkeep<'a>(alloc: Global, program: Making<Command<'a>>) -> Making<Comman
     ensures { (app : App) → IfOk program.entry (IsApp app)
         → IfOk result (IsApp (shapes.with_upkeep app)) }
 {
-    let what = "Prints how a node does: prefix, peers, appends";
+    let what = "Prints how a node does: prefix, peers, writes";
     let program = among(program, reaching(alloc, "status", what));
     let what = "Prints which node of which group it is";
     let program = among(program, reaching(alloc, "identify", what));

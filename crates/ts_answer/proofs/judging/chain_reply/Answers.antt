@@ -3,7 +3,7 @@ use Rattle.ts_cert.specs.CertView.{cert_in}
 use Rattle.ts_history.specs.Contents.{anchor_in}
 use Rattle.ts_store.specs.declared.anchor.TrustAnchor.{TrustAnchor}
 use Rattle.ts_answer.specs.Reply.{IsChainReply, with_id}
-use Rattle.ts_answer.proofs.Lent.{anchors}
+use Rattle.ts_answer.proofs.Borrowed.{anchors}
 use Rattle.ts_answer.proofs.judging.chain_reply.Goals as goal
 
 pub returns-clause-reply : goal.returns-clause-reply

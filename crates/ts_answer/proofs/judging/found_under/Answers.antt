@@ -3,7 +3,7 @@ use Rattle.ts_cert.specs.CertView.{cert_in}
 use Rattle.ts_crl.specs.ListView.{crl_in}
 use Rattle.ts_path.specs.View.{anchor_in}
 use Rattle.ts_answer.specs.Asked.{lists_in}
-use Rattle.ts_answer.proofs.Lent.{complete, deltas}
+use Rattle.ts_answer.proofs.Borrowed.{complete, deltas}
 use Rattle.ts_search.specs.Search.{IsSearchAnswer, Search}
 use Rattle.ts_answer.proofs.Asking.{front_is, same_search}
 use Rattle.ts_answer.proofs.Places.{among_anchors}

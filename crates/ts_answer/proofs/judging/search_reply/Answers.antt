@@ -4,7 +4,7 @@ use Rattle.ts_answer.specs.Asked.{trust_anchor}
 use Rattle.ts_answer.specs.Reply.{SaysSearch}
 use Rattle.ts_answer.specs.inside.Trusted.{trusted_in}
 use Rattle.ts_store.specs.declared.anchor.TrustAnchor.{TrustAnchor}
-use Rattle.ts_answer.proofs.Lent.{anchors}
+use Rattle.ts_answer.proofs.Borrowed.{anchors}
 use Rattle.ts_answer.proofs.judging.search_reply.Goals as goal
 
 pub returns-clause-reply : goal.returns-clause-reply

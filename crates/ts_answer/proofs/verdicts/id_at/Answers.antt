@@ -1,4 +1,4 @@
-use Rattle.ts_answer.proofs.Lent.{id_there}
+use Rattle.ts_answer.proofs.Borrowed.{id_there}
 use Rattle.ts_answer.proofs.verdicts.id_at.Goals as goal
 
 pub returns : goal.returns

@@ -2,7 +2,7 @@ use Rattle.std.proofs.Common.{◌∙◌, ap, map, sym}
 use Rattle.std.specs.Borrow.{Bor}
 use Rattle.ts_store.specs.declared.stored.StoredCrl.{StoredCrl}
 use Rattle.ts_history.specs.inside.Taken.{with_crl_at}
-use Rattle.ts_history.proofs.Lent.{replaced}
+use Rattle.ts_history.proofs.Borrowed.{replaced}
 use Rattle.ts_history.proofs.snapshot.put_crl.Goals as goal
 
 pub returns-then-at-len : goal.returns-then-at-len

@@ -1,6 +1,6 @@
 use Rattle.std.proofs.Common.{◌∙◌, ap, map}
 use Rattle.ts_history.specs.Contents.{anchor_in}
-use Rattle.ts_history.proofs.Lent.{removed}
+use Rattle.ts_history.proofs.Borrowed.{removed}
 use Rattle.ts_history.proofs.snapshot.remove_anchor.Goals as goal
 
 pub returns-then-at-len : goal.returns-then-at-len

@@ -1,5 +1,5 @@
 use Rattle.std.proofs.Common.{◌∙◌, ap, map}
-use Rattle.ts_history.proofs.Lent.{removed}
+use Rattle.ts_history.proofs.Borrowed.{removed}
 use Rattle.ts_history.proofs.snapshot.remove_crl.Goals as goal
 
 pub returns-then-at-len : goal.returns-then-at-len

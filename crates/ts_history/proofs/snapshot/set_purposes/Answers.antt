@@ -1,7 +1,7 @@
 use Rattle.std.proofs.Common.{◌∙◌, ap, sym, map, arith}
 use Rattle.ts_history.specs.Contents.{anchor_in}
 use Rattle.ts_history.specs.inside.Taken.{with_purposes_of}
-use Rattle.ts_history.proofs.Lent.{purposes_set, no_purposes_set}
+use Rattle.ts_history.proofs.Borrowed.{purposes_set, no_purposes_set}
 use Rattle.ts_history.proofs.snapshot.set_purposes.Goals as goal
 
 pub returns-then-at-len : goal.returns-then-at-len

@@ -1,12 +1,12 @@
 -- Tables that are lent, and what path validation is asked over them.
 use Rattle.std.proofs.Common.{◌≡◌, ◌<◌, ◌∷◌, ℕ, zero, suc, List, [], map, length, Some, slice_get, slice_index_or, refl, ap, arith}
 use Rattle.ts_history.specs.Contents.{Contents, anchor_in, contents_of}
-use Rattle.ts_history.specs.declared.snapshot.LentAnchor.{LentAnchor}
+use Rattle.ts_history.specs.declared.snapshot.BorrowedAnchor.{BorrowedAnchor}
 use Rattle.ts_store.specs.Tables.{Tables}
 use Rattle.ts_answer.specs.Asked.{lists_in}
 
 -- the id of an anchor that is lent
-pub id_there : (anchors : List LentAnchor) (number : ℕ) (d : LentAnchor) → number < length anchors
+pub id_there : (anchors : List BorrowedAnchor) (number : ℕ) (d : BorrowedAnchor) → number < length anchors
     → slice_get (map (λ a. a.id) (map anchor_in anchors)) number ≡ Some
     (slice_index_or anchors number d).id
 id_there [] number d within = absurd (omega (arith, within))
