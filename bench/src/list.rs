@@ -1,4 +1,4 @@
-//! Lists of revoked certificates made to measure (RFC 5280 5.1): all of the right shape, and none signed by anyone.
+//! CRLs made to measure (RFC 5280 5.1): all of the right shape, and none signed by anyone.
 
 use crate::certificate::{algorithm, extension, issuer, SHA256_RSA};
 use crate::der::{element, nested, BIT_STRING, INTEGER, SEQUENCE, UTC_TIME};

@@ -1,4 +1,4 @@
-//! OpenSSL's readers of certificates and of lists of revoked certificates, as far as the benchmarks call them.
+//! OpenSSL's readers of certificates and of CRLs, as far as the benchmarks call them.
 
 use std::ffi::{c_int, c_long, c_void};
 use std::ptr::null_mut;

@@ -42,7 +42,7 @@ impl Reader for Ours {
 
     fn read(octets: &[u8]) -> Result<(), Fault> {
         // SAFETY: the declaration is that of `crates/ts_bench`, where a slice is a pointer and then a length; these two
-        // are those of one slice, which is lent for the call. The function requires nothing else.
+        // are those of one slice, which is borrowed for the call. The function requires nothing else.
         let answer = unsafe { ts_bench_read(octets.as_ptr(), octets.len()) };
         match answer {
             Answer { rule: 0, .. } => Ok(()),
