@@ -4,10 +4,10 @@ use sha2::{Digest, Sha256};
 use std::alloc::{AllocError, Global};
 use std::test::Fail;
 use ts_answer::{Answers, is_deliverable};
+use ts_command::{Command, Outcome};
 use ts_octets::Octets;
 use ts_question::{Flags, MAX_POSITION, OctetStrings, Oids, Question, Reply, Terms};
 use ts_sig::DigestCheck;
-use ts_store::{Command, Outcome};
 use ts_synod::{Body, Message};
 
 /// The anchor: CN=R, with a key of one octet, signed by itself.

@@ -4,9 +4,9 @@
 use std::alloc::{AllocError, Global};
 use std::test::Fail;
 use ts_answer::Answers;
+use ts_command::Command;
 use ts_question::{MAX_POSITION, Question};
 use ts_sig::DigestCheck;
-use ts_store::Command;
 
 /// An anchor is added, gets purposes, a CRL is loaded; it is loaded again, and an id is used again.
 const COMMANDS: &[&[u8]] = &[

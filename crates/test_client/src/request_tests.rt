@@ -4,12 +4,13 @@
 ghost use Rattle.std.specs.Prelude.{IfOk, IfSome};
 ghost use Rattle.ts_disk.specs.Memory.{state_of};
 ghost use Rattle.ts_node.specs.Node.{IsSound};
-ghost use Rattle.ts_store.specs.Octets.{octets_of};
+ghost use Rattle.ts_command.specs.Octets.{octets_of};
 
 use std::alloc::{AllocError, Global};
 use std::test::Fail;
 use ts_answer::Answers;
 use ts_client::{Ending, Upkeep, ask, submit, tend};
+use ts_command::Command;
 use ts_disk::MemDisk;
 use ts_explain::explanation;
 use ts_node::Node;
@@ -18,7 +19,6 @@ use ts_reason::Reason;
 use ts_record::Record;
 use ts_serve::{Server, ServerPeer, carry};
 use ts_sig::DigestCheck;
-use ts_store::Command;
 
 type Lone = ServerPeer<MemDisk, Answers<DigestCheck>>;
 

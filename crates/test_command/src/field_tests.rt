@@ -3,10 +3,10 @@
 
 use std::alloc::{AllocError, Global};
 use std::test::Fail;
+use ts_command::{Outcome, Refusal};
 use ts_listing::missing;
 use ts_question::{Answer, Question, Reply};
-use ts_render::{answer_fields, chain_fields, is_final, moment_text, outcome_text, valid_in};
-use ts_store::{Outcome, Refusal};
+use ts_render::{answer_fields, chain_fields, is_final, moment_text, valid_in};
 use ts_sync::{Holding, PlanStep, StepKind, plan, plan_named};
 
 /// A question about a chain of two certificates, each of one octet, at 1970-01-01; its octets in
@@ -201,7 +201,7 @@ const MOMENTS: [(i64, Option<&str>); 3] = [
 #[test]
 fn outcomes_and_moments_are_printed(rt: HostRuntime) -> Result<(), Fail> {
     for (outcome, text) in OUTCOMES {
-        let found = outcome_text(rt.alloc(), outcome)?;
+        let found = format!(in rt.alloc(); "{outcome}")?;
         assert_eq!(rt; found.as_str(), text);
     }
     for (moment, text) in MOMENTS {

@@ -3,7 +3,8 @@
 use crate::value_tests::refusal;
 use std::test::Fail;
 use ts_der::{DerFault, Fault, Reader};
-use ts_ext::{CheckedExtensions, Extension, Extensions, Holder, Known, are_sound_extensions};
+use ts_ext::{Holder, Known};
+use ts_extensions::{CheckedExtensions, Extension, Extensions, are_sound_extensions};
 use ts_shape::CertRule;
 
 /// The subject's alternative name, the host `a`.

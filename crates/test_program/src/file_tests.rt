@@ -5,8 +5,8 @@ use std::fs;
 use std::rt::Files;
 use std::test::Fail;
 use ts_client::{TaskFault, read_file};
+use ts_command::Command;
 use ts_record::Record;
-use ts_store::Command;
 use ts_synod::Fact;
 use ts_tasks::{RecordLock, format_files, migrate_files, open_disks};
 

@@ -3,10 +3,10 @@ use Rattle.std.proofs.Common.{◌≡◌, ◌∙◌, refl, sym, ap, ℕ, ◌+◌,
 use Rattle.std.proofs.lemmas.List.{drop_more}
 use Rattle.std.proofs.Math.ListN.{drop_of_length-le}
 use Rattle.ts_synod.specs.Store.{Store, found_command, same_id, settling}
-use Rattle.ts_store.specs.Commands.{id_of}
-use Rattle.ts_store.specs.declared.command.Command.{Command}
-use Rattle.ts_store.specs.declared.outcome.Outcome.{Outcome}
-use Rattle.ts_store.specs.declared.outcome.Outcome.TheVariants.{Applied}
+use Rattle.ts_command.specs.Commands.{id_of}
+use Rattle.ts_command.specs.declared.command.Command.{Command}
+use Rattle.ts_command.specs.declared.outcome.Outcome.{Outcome}
+use Rattle.ts_command.specs.declared.outcome.Outcome.TheVariants.{Applied}
 use Rattle.ts_question.specs.Question.{StoreQuestion}
 use Rattle.ts_node.specs.Machine.{settling_as, store_of}
 

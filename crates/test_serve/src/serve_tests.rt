@@ -4,7 +4,7 @@ ghost use Rattle.std.specs.Prelude.{◌≤◌, ◌<◌, All, IfOk, length};
 ghost use Rattle.ts_disk.specs.Memory.{state_of};
 ghost use Rattle.ts_node.specs.Ahead.{IsAhead};
 ghost use Rattle.ts_node.specs.Node.{IsSound};
-ghost use Rattle.ts_store.specs.Octets.{octets_of};
+ghost use Rattle.ts_command.specs.Octets.{octets_of};
 
 use crate::test_machine::Applies;
 use std::alloc::{AllocError, Global};
@@ -12,6 +12,7 @@ use std::io;
 use std::io::{ErrorKind, Read, Write};
 use std::net::{Shutdown, TcpListener};
 use std::test::Fail;
+use ts_command::Command;
 use ts_disk::MemDisk;
 use ts_node::{Machine, Node};
 use ts_record::Record;
@@ -19,7 +20,6 @@ use ts_serve::{
     AnswerFault, MAX_WAITING, Peer, READ_LIMIT, ServeFault, Server, ServerPeer, TcpPeer, carry,
     connect, is_request, listen, refusal, serve, set_up, write_octets,
 };
-use ts_store::Command;
 use ts_wire::{Feed, Frame, FrameFault};
 
 type Served = Server<MemDisk, Applies>;

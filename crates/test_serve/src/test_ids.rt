@@ -2,9 +2,9 @@
 
 ghost use Rattle.std.specs.Prelude.{◌≡◌, ◌≢◌, true, false};
 ghost use Rattle.ts_synod.specs.Store.{same_id};
-ghost use Rattle.ts_store.specs.Commands.{id_of};
+ghost use Rattle.ts_command.specs.Commands.{id_of};
 
-use ts_store::Command;
+use ts_command::Command;
 
 /// Two ids have the same octets.
 fn is_same(a: &[u8], b: &[u8]) -> bool

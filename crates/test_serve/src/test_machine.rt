@@ -4,9 +4,9 @@ ghost use Rattle.std.specs.Prelude.{◌≡◌, ◌≤◌, [], length};
 
 use crate::test_ids::has_id;
 use std::alloc::{AllocError, Global};
+use ts_command::{Command, Outcome};
 use ts_node::Machine;
 use ts_question::{Answer, Question, Reply};
-use ts_store::{Command, Outcome};
 
 /// The commands that were taken.
 #[derive(Drop)]
@@ -30,8 +30,8 @@ impl Applies {
 
 impl Machine<Command> for Applies {
     ghost use Rattle.std.specs.Prelude.{◌≡◌, length};
-    ghost use Rattle.ts_store.specs.Commands.{id_of};
-    ghost use Rattle.ts_store.specs.declared.outcome.Outcome.TheVariants.{Applied};
+    ghost use Rattle.ts_command.specs.Commands.{id_of};
+    ghost use Rattle.ts_command.specs.declared.outcome.Outcome.TheVariants.{Applied};
     ghost use Rattle.ts_question.specs.Reply.{numbered_reply};
     ghost use Rattle.ts_question.specs.declared.reply.Reply.TheVariants.{NoAnchor};
 

@@ -2,8 +2,8 @@
 
 use std::alloc::{AllocError, Global};
 use std::test::Fail;
+use ts_command::Outcome;
 use ts_question::{Flags, OctetStrings, Oids, Question, Terms};
-use ts_store::Outcome;
 use ts_synod::{Body, Message};
 use ts_wire::{Feed, FeedError, Frame, FrameFault, WriteError, decode, write_frame};
 

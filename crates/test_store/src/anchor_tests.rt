@@ -2,8 +2,9 @@
 
 use std::alloc::{AllocError, Global};
 use std::test::Fail;
+use ts_command::{Purposes, Refusal};
 use ts_octets::Octets;
-use ts_store::{Anchors, Purposes, Refusal};
+use ts_store::Anchors;
 
 /// Serial number 2, issuer CN=R, subject CN=L.
 const L: &[u8] =

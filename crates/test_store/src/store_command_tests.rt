@@ -2,8 +2,8 @@
 
 use std::alloc::{AllocError, Global};
 use std::test::Fail;
+use ts_command::Command;
 use ts_octets::Octets;
-use ts_store::Command;
 
 /// What follows the id, of commands.
 const COMMANDS: &[&[u8]] = &[

@@ -2,8 +2,9 @@
 
 use std::alloc::Global;
 use std::test::Fail;
+use ts_command::{Command, Outcome, Refusal};
 use ts_octets::Octets;
-use ts_store::{Command, FirstCommand, Outcome, Refusal, Store};
+use ts_store::{FirstCommand, Store};
 
 /// Serial number 2, issuer CN=R, subject CN=L.
 const L: &[u8] =

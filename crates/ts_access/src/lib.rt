@@ -28,8 +28,8 @@
 //! - [`key_of`]: the first key of this number.
 //! - [`may`]: whether a role may ask this of a node (`specs/Roles`).
 //! - [`Sieve::push`], [`Sieve::take`]: what is held and handed on (`specs/Sifting`), and that of
-//!   the stream so far it is whole frames that the role may ask, and a part of one more, or a faulty
-//!   length and what follows, or the refusal of a forbidden frame (`specs/Sifted`).
+//!   the stream so far it is whole frames that the role may ask, and a part of one more, or a
+//!   faulty length and what follows, or the refusal of a forbidden frame (`specs/Sifted`).
 //! - [`Entrance::hello`], [`Visitor::hello`]: the octets of the challenge, of the greeting.
 //! - [`Entrance::push`], [`Entrance::take`], [`Entrance::seal`]: the step from one stage to another
 //!   or exactly why there is none, and then nothing is let through any more (`specs/Entering`,

@@ -1,11 +1,11 @@
--- Tables that are lent, and what path validation is asked over them.
+-- Tables that are borrowed, and what path validation is asked over them.
 use Rattle.std.proofs.Common.{◌≡◌, ◌<◌, ◌∷◌, ℕ, zero, suc, List, [], map, length, Some, slice_get, slice_index_or, refl, ap, arith}
 use Rattle.ts_history.specs.Contents.{Contents, anchor_in, contents_of}
 use Rattle.ts_history.specs.declared.snapshot.BorrowedAnchor.{BorrowedAnchor}
 use Rattle.ts_store.specs.Tables.{Tables}
 use Rattle.ts_answer.specs.Asked.{lists_in}
 
--- the id of an anchor that is lent
+-- the id of an anchor that is borrowed
 pub id_there : (anchors : List BorrowedAnchor) (number : ℕ) (d : BorrowedAnchor) → number < length anchors
     → slice_get (map (λ a. a.id) (map anchor_in anchors)) number ≡ Some
     (slice_index_or anchors number d).id

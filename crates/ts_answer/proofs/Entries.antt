@@ -1,8 +1,8 @@
 -- The entries of the log are the commands with what each came to.
 use Rattle.std.proofs.Common.{◌≡◌, ◌∙◌, ◌++◌, ◌∷◌, ℕ, List, [], map, take, length, refl, sym, ap}
 use Rattle.std.proofs.lemmas.List.{take-map}
-use Rattle.ts_store.specs.declared.command.Command.{Command}
-use Rattle.ts_store.specs.declared.outcome.Outcome.{Outcome}
+use Rattle.ts_command.specs.declared.command.Command.{Command}
+use Rattle.ts_command.specs.declared.outcome.Outcome.{Outcome}
 use Rattle.ts_history.specs.Outcome.{outcome_after}
 use Rattle.ts_question.specs.Rows.{command_encoding}
 use Rattle.ts_listing.specs.Log.{command_row, log_from, log_of, log_rows}

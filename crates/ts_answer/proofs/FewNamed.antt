@@ -14,11 +14,11 @@ use Rattle.ts_ext.specs.declared.known.Known.{Known}
 use Rattle.ts_ext.specs.declared.known.Known.TheVariants.{CertificatePolicies, PolicyMappings}
 use Rattle.ts_ext.specs.Encoding.{IsPolicyInformation, IsPolicyMapping}
 use Rattle.ts_ext.specs.Ext.{certificatePolicies, policyMappings, layout_of}
-use Rattle.ts_ext.specs.Extension.{Extension, IsExtension, AreExplicit}
+use Rattle.ts_extensions.specs.Extension.{Extension, IsExtension, AreExplicit}
 use Rattle.ts_ext.specs.Known.{known_at, certificate_extension, identifier_of}
 use Rattle.ts_ext.specs.Policies.{Information, Mapping}
 use Rattle.ts_ext.specs.Reading.{certificate_policies_of, policy_mappings_of}
-use Rattle.ts_ext.specs.Stated.{IsStated}
+use Rattle.ts_extensions.specs.Stated.{IsStated}
 use Rattle.ts_ext.proofs.Policies.{certificate_policies-format, policy_mappings-format}
 use Rattle.ts_cert.specs.declared.certificate.Cert.{Cert}
 use Rattle.ts_cert.specs.Certificate.{Certificate, Tbs, all_extensions}

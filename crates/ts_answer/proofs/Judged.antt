@@ -8,7 +8,7 @@ use Rattle.ts_question.specs.declared.question.Target.TheVariants.{Chain, Search
 use Rattle.ts_question.specs.declared.reply.Reply.{Reply}
 use Rattle.ts_question.specs.declared.terms.Terms.{Terms}
 use Rattle.ts_store.specs.Store.{store_after}
-use Rattle.ts_store.specs.declared.command.Command.{Command}
+use Rattle.ts_command.specs.declared.command.Command.{Command}
 use Rattle.ts_answer.specs.Parts.{certificates_of, first_part, first_unreadable}
 use Rattle.ts_answer.specs.Reply.{IsReply, IsReplyBy, IsReplyTo}
 use Rattle.ts_answer.specs.inside.View.{IsJudged}

@@ -13,7 +13,7 @@ use Rattle.ts_search.proofs.OneAnswer as one_answer
 use Rattle.ts_question.specs.declared.reply.Reply.{Reply}
 use Rattle.ts_question.specs.declared.reply.Reply.TheVariants.{Valid, Invalid, Found, NoPath, SearchLimit}
 use Rattle.ts_store.specs.declared.anchor.TrustAnchor.{TrustAnchor as StoredAnchor}
-use Rattle.ts_store.specs.declared.command.Command.{Command}
+use Rattle.ts_command.specs.declared.command.Command.{Command}
 use Rattle.ts_store.specs.Store.{store_after}
 use Rattle.ts_store.specs.Tables.{Tables}
 use Rattle.ts_cert.specs.CertView.{certificate_in}
@@ -26,7 +26,7 @@ use Rattle.ts_codec.proofs.Truths.{first_true, second_true}
 use Rattle.std.proofs.lemmas.Bool.{leb-true}
 use Rattle.ts_search.proofs.Takes.{length_map}
 use Rattle.ts_answer.specs.Asked.{chain_of, question_of, search_of}
-use Rattle.ts_store.specs.declared.outcome.Outcome.{Outcome}
+use Rattle.ts_command.specs.declared.outcome.Outcome.{Outcome}
 use Rattle.ts_node.specs.Run.{Group, Happening, RunPromises}
 use Rattle.ts_answer.specs.Laws.{AskTheSame, Headline, trust_store}
 use Rattle.ts_answer.specs.Machine.{IsAnswer}

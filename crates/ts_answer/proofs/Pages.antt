@@ -18,18 +18,18 @@ use Rattle.ts_crl.specs.Table.{crl_of}
 use Rattle.ts_question.specs.declared.reply.Reply.{Reply}
 use Rattle.ts_question.specs.Rows.{AnchorLine, CrlLine, CommandLine, anchor_encoding, crl_encoding, command_encoding, moment_encoding}
 use Rattle.ts_store.specs.Anchors.{add_unless, new_anchor, new_refusal, place_of, refuse_if, set_at, with_purposes, withdraw_at}
-use Rattle.ts_store.specs.Commands.{CommandFits, id_of}
+use Rattle.ts_command.specs.Commands.{CommandFits, id_of}
 use Rattle.ts_store.specs.Ids.{first_of}
 use Rattle.ts_store.specs.Lists.{drop_at, drop_list, has_id, has_slot, is_newer, list_in, place_by, put_by, put_list, replace_slot, stored_crl}
 use Rattle.ts_store.specs.Store.{StoreState, step, step_by, make, after, store_after, empty}
 use Rattle.ts_store.specs.Tables.{Tables, change, drop_either, load_as, with_anchors, with_complete, with_deltas}
 use Rattle.ts_store.specs.declared.anchor.TrustAnchor.{TrustAnchor}
 use Rattle.ts_store.specs.declared.stored.StoredCrl.{StoredCrl}
-use Rattle.ts_store.specs.declared.command.Command.{Command}
-use Rattle.ts_store.specs.declared.command.Command.TheVariants.{AddAnchor, WithdrawAnchor, LoadCrl, DropCrl, SetPurposes, Noop}
+use Rattle.ts_command.specs.declared.command.Command.{Command}
+use Rattle.ts_command.specs.declared.command.Command.TheVariants.{AddAnchor, WithdrawAnchor, LoadCrl, DropCrl, SetPurposes, Noop}
 use Rattle.ts_store.specs.declared.ids.FirstCommand.{FirstCommand}
-use Rattle.ts_store.specs.declared.outcome.Outcome.{Outcome}
-use Rattle.ts_store.specs.declared.outcome.Refusal.{Refusal}
+use Rattle.ts_command.specs.declared.outcome.Outcome.{Outcome}
+use Rattle.ts_command.specs.declared.outcome.Refusal.{Refusal}
 use Rattle.ts_history.specs.Outcome.{outcome_after}
 use Rattle.ts_history.specs.Contents.{Contents, contents_of}
 use Rattle.ts_listing.specs.Listing.{anchor_row, anchor_rows, crl_row, crl_rows, first_octets, listing, store_rows}

@@ -106,7 +106,7 @@ is_among s (Found number chain policies) few user named is =
 is_among s NoPath few user named is = tt
 is_among s SearchLimit few user named is = tt
 
--- among the certificates of a question, and under the anchors that were lent
+-- among the certificates of a question, and under the anchors that were borrowed
 pub among_anchors : (leaf : Cert) (pool : List Cert) (anchors : List Anchor) (inputs : Inputs)
     (crls : Crls) (good : Check) (all : List Cert) (trusted : List TrustedAnchor) (a : SearchAnswer)
     → leaf ∷ pool ≡ all → length all ≤ 33 → length inputs.user_policies.now ≤ 32 → map anchor_in anchors ≡ map trusted_in trusted

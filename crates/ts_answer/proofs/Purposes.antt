@@ -1,9 +1,9 @@
--- Purposes that are lent, one by one.
+-- Purposes that are borrowed, one by one.
 use Rattle.std.proofs.Common.{◌≡◌, ◌∙◌, ◌≤◌, ◌<◌, ◌+◌, ◌++◌, ◌∷◌, ◌&&◌, ℕ, List, [], Option, Some, Bool, true, false, Bor, length, map, take, get_or, slice_set, sym, ap, subst, refl}
 use Rattle.std.specs.Prelude.{nat_le}
 use Rattle.std.proofs.lemmas.Bool.{leb-true}
 use Rattle.std.proofs.lemmas.List.{take_more, take_more_set}
-use Rattle.ts_store.specs.Purposes.{ArePurposes, is_ascending}
+use Rattle.ts_command.specs.Purposes.{ArePurposes, is_ascending}
 
 map_more : {A B : Type 0} (f : A → B) (xs : List A) (y : A) → map f (xs ++ y ∷ []) ≡ map f xs ++ f y ∷ []
 map_more f [] y = refl

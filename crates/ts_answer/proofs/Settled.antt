@@ -13,14 +13,14 @@ use Rattle.ts_node.specs.Machine.{store_of}
 use Rattle.ts_synod.proofs.Sets.{and_true}
 use Rattle.std.proofs.lemmas.Bool.Decides.{Decides-eqb}
 use Rattle.ts_node.proofs.Settlings.{same_refl}
-use Rattle.ts_store.specs.Commands.{id_of}
+use Rattle.ts_command.specs.Commands.{id_of}
 use Rattle.ts_store.specs.Ids.{first_of}
 use Rattle.ts_store.specs.Store.{StoreState, step, step_by, make, after, store_after, empty}
 use Rattle.ts_store.specs.Tables.{Tables, change}
-use Rattle.ts_store.specs.declared.command.Command.{Command}
+use Rattle.ts_command.specs.declared.command.Command.{Command}
 use Rattle.ts_store.specs.declared.ids.FirstCommand.{FirstCommand}
-use Rattle.ts_store.specs.declared.outcome.Outcome.{Outcome}
-use Rattle.ts_store.specs.declared.outcome.Refusal.{Refusal}
+use Rattle.ts_command.specs.declared.outcome.Outcome.{Outcome}
+use Rattle.ts_command.specs.declared.outcome.Refusal.{Refusal}
 use Rattle.ts_store.proofs.Held.{is-kept}
 use Rattle.ts_store.proofs.Steps.{held, kept, joined}
 use Rattle.ts_history.specs.Outcome.{outcome_after}

@@ -10,9 +10,9 @@ use Rattle.ts_node.specs.declared.input.Reply.TheVariants as replies
 use Rattle.ts_search.specs.View.{Check}
 use Rattle.ts_question.specs.Question.{StoreQuestion, QuestionFits}
 use Rattle.ts_question.specs.Reply.{NumberedReply}
-use Rattle.ts_store.specs.Commands.{id_of}
-use Rattle.ts_store.specs.declared.command.Command.{Command}
-use Rattle.ts_store.specs.declared.outcome.Outcome.{Outcome}
+use Rattle.ts_command.specs.Commands.{id_of}
+use Rattle.ts_command.specs.declared.command.Command.{Command}
+use Rattle.ts_command.specs.declared.outcome.Outcome.{Outcome}
 use Rattle.ts_history.specs.Outcome.{outcome_after}
 use Rattle.ts_answer.specs.Machine.{IsAnswer}
 

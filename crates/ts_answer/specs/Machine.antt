@@ -3,7 +3,7 @@ use Rattle.std.specs.Prelude.{◌≡◌, List, length}
 use Rattle.ts_search.specs.View.{Check}
 use Rattle.ts_question.specs.Question.{StoreQuestion}
 use Rattle.ts_question.specs.Reply.{NumberedReply}
-use Rattle.ts_store.specs.declared.command.Command.{Command}
+use Rattle.ts_command.specs.declared.command.Command.{Command}
 use Rattle.ts_answer.specs.Reply.{IsReply}
 
 -- the answer says after how many commands it holds, and is the reply after these

@@ -25,7 +25,7 @@ use Rattle.ts_listing.specs.Log.{log_rows}
 use Rattle.ts_listing.specs.Page.{page}
 use Rattle.ts_store.specs.Store.{store_after}
 use Rattle.ts_store.specs.Tables.{Tables}
-use Rattle.ts_store.specs.declared.command.Command.{Command}
+use Rattle.ts_command.specs.declared.command.Command.{Command}
 use Rattle.ts_store.specs.declared.anchor.TrustAnchor.{TrustAnchor as StoredAnchor}
 use Rattle.ts_answer.specs.Asked.{question_of, search_of}
 use Rattle.ts_answer.specs.Parts.{Unreadable, first_unreadable}

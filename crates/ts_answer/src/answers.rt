@@ -18,11 +18,12 @@ use crate::cache::{Cache, key_of};
 use crate::judging::reply_over;
 use std::alloc::{AllocError, Global};
 use std::marker::Model;
+use ts_command::{Command, Outcome};
 use ts_history::History;
 use ts_listing::{Entry, log_page, purposes_of};
 use ts_question::{Answer, Question, Reply, Target};
 use ts_sig::SignatureCheck;
-use ts_store::{Command, FirstCommand, Outcome};
+use ts_store::FirstCommand;
 
 /// A trust store that keeps the commands that it took, each with what it came to, and answers
 /// questions after any number of them. It caches the answers that were given last.

@@ -1,11 +1,11 @@
 //! Which messages a node takes.
 
 ghost use Rattle.std.specs.Prelude.{◌≡◌, ◌≤◌, ◌↔◌, length, IsTrue};
-ghost use Rattle.ts_store.specs.Octets.{octets_of};
+ghost use Rattle.ts_command.specs.Octets.{octets_of};
 ghost use Rattle.ts_node.specs.Inputs.{BodyFits, IsShort};
 ghost use Rattle.ts_record.specs.Facts.{IsBallot, IsPosition};
 
-use ts_store::Command;
+use ts_command::Command;
 use ts_synod::{Ballot, Body, Message};
 
 /// Whether a number is a position of the log, which are 1 to 1,000,000.

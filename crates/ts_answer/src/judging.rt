@@ -10,7 +10,7 @@ ghost use Rattle.ts_constraint.specs.View.{bases_in};
 ghost use Rattle.ts_history.specs.Contents.{contents_of};
 ghost use Rattle.ts_store.specs.Store.{store_after};
 ghost use Rattle.ts_store.specs.Tables.{Tables};
-ghost use Rattle.ts_store.specs.declared.command.Command.{Command};
+ghost use Rattle.ts_command.specs.declared.command.Command.{Command};
 ghost use Rattle.ts_question.specs.Question.{is_target};
 ghost use Rattle.ts_answer.specs.Parts.{subtree_base, certificates_of, first_part};
 ghost use Rattle.ts_answer.specs.Asked.{chain_of, question_of, search_of, trust_anchor};

@@ -5,17 +5,17 @@ ghost use Rattle.ts_node.specs.Run.{AreAllowed, Group, Happening, IsStart};
 ghost use Rattle.ts_search.specs.View.{Check};
 ghost use Rattle.ts_question.specs.Question.{StoreQuestion, QuestionFits};
 ghost use Rattle.ts_question.specs.Reply.{NumberedReply};
-ghost use Rattle.ts_store.specs.Octets.{octets_of};
-ghost use Rattle.ts_store.specs.declared.command.Command.{Command as Submitted};
-ghost use Rattle.ts_store.specs.declared.outcome.Outcome.{Outcome};
+ghost use Rattle.ts_command.specs.Octets.{octets_of};
+ghost use Rattle.ts_command.specs.declared.command.Command.{Command as Submitted};
+ghost use Rattle.ts_command.specs.declared.outcome.Outcome.{Outcome};
 ghost use Rattle.ts_answer.specs.Held.{TrustStore};
 ghost use Rattle.ts_answer.specs.Laws.{AskTheSame, Headline, trust_store};
 ghost use Rattle.ts_answer.specs.Machine.{IsAnswer};
 
 use crate::answers::Answers;
+use ts_command::Command;
 use ts_disk::Disk;
 use ts_sig::SignatureCheck;
-use ts_store::Command;
 
 /// A question has one answer after a list of commands, and so have two that ask the same.
 pub fn one_answer()

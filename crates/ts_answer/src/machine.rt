@@ -1,16 +1,16 @@
 //! The trust store as the state machine of a node.
 
 ghost use Rattle.std.specs.Prelude.{◌≡◌, ◌<◌, ◌≤◌, ◌++◌, ◌∷◌, [], IfOk, OnOk, OnErr, length, take};
-ghost use Rattle.ts_store.specs.Commands.{id_of};
+ghost use Rattle.ts_command.specs.Commands.{id_of};
 ghost use Rattle.ts_history.specs.Outcome.{outcome_after};
 ghost use Rattle.ts_answer.specs.Machine.{IsAnswer};
 
 use crate::answers::Answers;
 use std::alloc::AllocError;
+use ts_command::{Command, Outcome};
 use ts_node::Machine;
 use ts_question::{Answer, Question};
 use ts_sig::SignatureCheck;
-use ts_store::{Command, Outcome};
 
 impl<S: SignatureCheck + Drop> Machine<Command> for Answers<S> {
     type Outcome = Outcome;

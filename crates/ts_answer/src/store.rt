@@ -2,7 +2,7 @@
 
 ghost use Rattle.std.specs.Prelude.{◌≡◌, map, option_map, IfOk};
 ghost use Rattle.ts_crl.specs.ListView.{crl_in};
-ghost use Rattle.ts_history.specs.Contents.{anchor_in as lent_in};
+ghost use Rattle.ts_history.specs.Contents.{anchor_in as borrowed_in};
 ghost use Rattle.ts_path.specs.View.{anchor_in};
 ghost use Rattle.ts_answer.specs.Asked.{lists_in, trust_anchor};
 ghost use Rattle.ts_answer.specs.Reply.{with_id};
@@ -35,7 +35,7 @@ pub(crate) fn anchor_of<'a>(
     anchors: &[BorrowedAnchor<'a>],
     id: &[u8; 32],
 ) -> Option<BorrowedAnchor<'a>>
-    ensures { option_map lent_in result ≡ with_id id.now (map lent_in anchors.now) }
+    ensures { option_map borrowed_in result ≡ with_id id.now (map borrowed_in anchors.now) }
 {
     for anchor in anchors {
         if anchor.id == *id {
@@ -51,7 +51,7 @@ pub(crate) fn trusted_of<'a>(
     stored: &[BorrowedAnchor<'a>],
 ) -> Result<Vec<TrustedAnchor<'a>>, AllocError>
     ensures { IfOk result (λ trusted. map trusted_in trusted.items
-        ≡ map trust_anchor (map lent_in stored.now)) }
+        ≡ map trust_anchor (map borrowed_in stored.now)) }
 {
     let mut trusted = Vec::new(alloc);
     for anchor in stored {

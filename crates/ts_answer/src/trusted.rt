@@ -1,15 +1,15 @@
 //! Trust anchors of a store, as path validation borrows them.
 
 ghost use Rattle.std.specs.Prelude.{◌≡◌, ◌≤◌, Some, None, length, map, take, option_map, IfOk};
-ghost use Rattle.ts_history.specs.Contents.{anchor_in as lent_in};
+ghost use Rattle.ts_history.specs.Contents.{anchor_in as borrowed_in};
 ghost use Rattle.ts_path.specs.View.{anchor_in};
 ghost use Rattle.ts_answer.specs.Asked.{trust_anchor};
 
 use std::alloc::{AllocError, Global};
 use ts_cert::Cert;
+use ts_command::MAX_PURPOSES;
 use ts_history::BorrowedAnchor;
 use ts_path::Anchor;
-use ts_store::MAX_PURPOSES;
 
 /// A trust anchor's certificate, and the content octets of its purposes, which are at most 16, if
 /// it is not trusted for any.
@@ -27,7 +27,7 @@ impl<'a> TrustedAnchor<'a> {
 
     /// An anchor of the store. Its certificate is not read again.
     pub fn of(stored: BorrowedAnchor<'a>) -> TrustedAnchor<'a>
-        ensures { trusted_in result ≡ trust_anchor (lent_in stored.entry) }
+        ensures { trusted_in result ≡ trust_anchor (borrowed_in stored.entry) }
     {
         let cert = stored.certificate.view();
         let mut contents: [&'a [u8]; MAX_PURPOSES] = [&[]; MAX_PURPOSES];

@@ -2,7 +2,7 @@
 
 ghost use Rattle.std.specs.Prelude.{◌≡◌, ◌<◌, suc, true, Some, map, slice_get, length, IfOk};
 ghost use Rattle.std.specs.List.{AllByRecursion};
-ghost use Rattle.ts_history.specs.Contents.{anchor_in as lent_in};
+ghost use Rattle.ts_history.specs.Contents.{anchor_in as borrowed_in};
 ghost use Rattle.ts_question.specs.Reply.{are_countable};
 ghost use Rattle.ts_answer.specs.Parts.{unreadable};
 ghost use Rattle.ts_answer.specs.inside.Ranges.{AreFew, InRange, IsAmong, IsSayable};
@@ -78,7 +78,7 @@ fn places_of(alloc: Global, chain: &[u8]) -> Result<Places, AllocError>
 /// The id of the anchor of this number.
 fn id_at(anchors: &[BorrowedAnchor<'_>], number: usize) -> [u8; 32]
     requires { number < length anchors.now }
-    ensures { slice_get (map (λ a. a.id) (map lent_in anchors.now)) number ≡ Some result }
+    ensures { slice_get (map (λ a. a.id) (map borrowed_in anchors.now)) number ≡ Some result }
 {
     anchors[number].id
 }
@@ -90,7 +90,7 @@ pub(crate) fn reply_of_search(
     answer: SearchAnswer<'_>,
 ) -> Result<Reply, AllocError>
     requires { IsAmong (length anchors.now) answer }
-    ensures said { IfOk result (λ reply. SaysSearch (map lent_in anchors.now) answer.entry reply) }
+    ensures said { IfOk result (λ reply. SaysSearch (map borrowed_in anchors.now) answer.entry reply) }
     ensures within { IfOk result InRange }
 {
     match answer {

@@ -42,8 +42,8 @@ impl Mailbox {
         self.frames.len()
     }
 
-    /// Puts a frame behind the others. Where [`MAX_FRAMES`] wait the oldest of them goes: whether one
-    /// did.
+    /// Puts a frame behind the others. Where [`MAX_FRAMES`] wait the oldest of them goes: whether
+    /// one did.
     ///
     /// # Errors
     ///

@@ -23,11 +23,11 @@ use Rattle.ts_shape.proofs.Parts.{Value, took, element-took, der-ok}
 use Rattle.ts_shape.proofs.FieldParts.{integer-part, bits-part}
 use Rattle.ts_name.proofs.NameParts.{name-part}
 use Rattle.ts_shape.proofs.OptionalParts.{begins-if-any, optional-found, optional-again}
-use Rattle.ts_ext.specs.Extension.{Extension, Located, unlocated, AreExplicit, explicit_all_located_of, explicit_extensions_of}
-use Rattle.ts_ext.proofs.ExtensionParts.{explicit_extensions-format}
+use Rattle.ts_extensions.specs.Extension.{Extension, Located, unlocated, AreExplicit, explicit_all_located_of, explicit_extensions_of}
+use Rattle.ts_extensions.proofs.ExtensionParts.{explicit_extensions-format}
 use Rattle.ts_ext.proofs.Formats.{value_of}
-use Rattle.ts_ext.proofs.Unlocated.{optional-sees, explicit_extensions-see}
-use Rattle.ts_ext.proofs.ValidExtensions.{AllOctets, explicit-octets}
+use Rattle.ts_extensions.proofs.Unlocated.{optional-sees, explicit_extensions-see}
+use Rattle.ts_extensions.proofs.ValidExtensions.{AllOctets, explicit-octets}
 use Rattle.ts_name.specs.Canon.{Attr}
 use Rattle.ts_name.specs.NameEncoding.{IsName}
 use Rattle.ts_field.specs.Algorithm.{Algorithm, IsAlgorithm, algorithm_of, algorithm_at}

@@ -13,9 +13,9 @@ use Rattle.ts_shape.proofs.ItemParts.{tag-part, alone-again}
 use Rattle.ts_ext.specs.declared.known.Holder.TheVariants.{Certificate as CertificateHolder}
 use Rattle.ts_ext.specs.declared.known.Known.{Known}
 use Rattle.ts_ext.specs.Ext.{ExtValue, IsContent, IsExt, layout_of}
-use Rattle.ts_ext.specs.Extension.{Extension}
+use Rattle.ts_extensions.specs.Extension.{Extension}
 use Rattle.ts_ext.specs.Known.{known_at, identifier_of}
-use Rattle.ts_ext.specs.Stated.{IsStated, IsValueOf}
+use Rattle.ts_extensions.specs.Stated.{IsStated, IsValueOf}
 use Rattle.ts_ext.proofs.Formats.{Format, value_of}
 use Rattle.ts_cert.specs.Certificate.{Certificate, Tbs, all_extensions}
 use Rattle.ts_cert.specs.Encoding.{IsCertificate}

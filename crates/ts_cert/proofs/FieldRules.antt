@@ -7,9 +7,9 @@ use Rattle.ts_shape.specs.Fault.{breaks}
 use Rattle.ts_shape.specs.Repeats.{is_among, first_repeated}
 use Rattle.ts_shape.specs.Shape.{◌or_else◌}
 use Rattle.ts_ext.specs.declared.known.Holder.TheVariants.{Certificate as CertificateHolder}
-use Rattle.ts_ext.specs.Extension.{Extension, Located, unlocated}
-use Rattle.ts_ext.specs.ValueRules.{repeated_fault, AreValid}
-use Rattle.ts_ext.proofs.ValidExtensions.{AllOctets, are-sound, no-fault}
+use Rattle.ts_extensions.specs.Extension.{Extension, Located, unlocated}
+use Rattle.ts_extensions.specs.ValueRules.{repeated_fault, AreValid}
+use Rattle.ts_extensions.proofs.ValidExtensions.{AllOctets, are-sound, no-fault}
 use Rattle.ts_cert.specs.declared.version.Version.{Version}
 use Rattle.ts_cert.specs.declared.version.Version.TheVariants.{V1, V2, V3}
 use Rattle.ts_cert.specs.Certificate.{Tbs, all_extensions}

@@ -20,9 +20,9 @@ use Rattle.ts_shape.proofs.ItemParts.{some-walked}
 use Rattle.ts_name.proofs.Shapes.{name-again}
 use Rattle.ts_shape.proofs.OptionalParts.{begins-within, begins-other, begins-if-any, optional-again}
 use Rattle.ts_shape.proofs.Parts.{Value, Part}
-use Rattle.ts_ext.specs.Extension.{Extension, Located, unlocated, located_in, all_located_of, AreExtensions, AreExplicit}
-use Rattle.ts_ext.proofs.ExtensionParts.{extensions-format}
-use Rattle.ts_ext.proofs.Unlocated.{extensions-see}
+use Rattle.ts_extensions.specs.Extension.{Extension, Located, unlocated, located_in, all_located_of, AreExtensions, AreExplicit}
+use Rattle.ts_extensions.proofs.ExtensionParts.{extensions-format}
+use Rattle.ts_extensions.proofs.Unlocated.{extensions-see}
 use Rattle.ts_field.specs.Algorithm.{IsAlgorithm}
 use Rattle.ts_cert.specs.declared.layout.Layout.{Layout}
 use Rattle.ts_cert.specs.Certificate.{Certificate}

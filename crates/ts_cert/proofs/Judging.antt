@@ -41,8 +41,8 @@ use Rattle.ts_cert.specs.Table.{signature_algorithm_element, algorithms_fault, f
 use Rattle.ts_cert.specs.Table.{certificate_fault}
 use Rattle.ts_shape.specs.Shape.{any, optional, tagged, no_other, Shape, nothing, plain, ◌then◌, ◌or_else◌, header_fault, row_fault, judge, der_rules, no_rules, one_rule}
 use Rattle.ts_shape.proofs.OptionalParts.{optional-judged}
-use Rattle.ts_ext.specs.Extension.{explicit_extensions, explicit_all_located_of}
-use Rattle.ts_ext.proofs.ExtensionParts.{explicit_all_located-judged}
+use Rattle.ts_extensions.specs.Extension.{explicit_extensions, explicit_all_located_of}
+use Rattle.ts_extensions.proofs.ExtensionParts.{explicit_all_located-judged}
 use Rattle.ts_cert.proofs.KeyParts.{unique_identifier-format}
 use Rattle.ts_shape.proofs.Judging.{Judged, refusal-judged, bind, no_more, no_less, Headed}
 use Rattle.ts_shape.proofs.Judging.{element-judged, Reads, within-reads, then-judged, end-judged}

@@ -2,11 +2,11 @@
 use Rattle.std.proofs.Common.{◌≡◌, ℕ, List, ◌++◌, refl, sym, ap, ◌∙◌}
 use Rattle.ts_name.specs.NameEncoding.{IsName}
 use Rattle.ts_shape.proofs.OneEncoding.{One, one-within, one-if-any}
-use Rattle.ts_ext.proofs.OneExtension.{one-explicit}
+use Rattle.ts_extensions.proofs.OneExtension.{one-explicit}
 use Rattle.ts_field.proofs.OneEncoding.{one-algorithm, one-name, one-time}
 use Rattle.ts_cert.specs.Certificate.{Tbs}
 use Rattle.ts_shape.specs.Fields.{IsInteger, IsBits}
-use Rattle.ts_ext.specs.Extension.{AreExplicit}
+use Rattle.ts_extensions.specs.Extension.{AreExplicit}
 use Rattle.ts_cert.specs.Encoding.{IsKeyInfo, IsValidity, IsUniqueIdentifier, IsTbs}
 
 one-validity : One IsValidity

@@ -3,7 +3,7 @@ use Rattle.std.proofs.Common.{◌≡◌, ℕ, List, Option, Result}
 use Rattle.std.proofs.Props.{props}
 use Rattle.ts_name.specs.Canon.{Attr}
 use Rattle.ts_shape.specs.declared.fault.CertFault.{CertFault}
-use Rattle.ts_ext.specs.Extension.{Extension}
+use Rattle.ts_extensions.specs.Extension.{Extension}
 use Rattle.ts_field.specs.Algorithm.{Algorithm}
 use Rattle.ts_cert.specs.declared.version.Version.{Version}
 use Rattle.ts_cert.specs.Certificate.{KeyInfo, Certificate}

@@ -17,17 +17,17 @@ use Rattle.ts_shape.specs.Items.{each, alone, tagged_as, of_tag}
 use Rattle.ts_shape.specs.Shape.{Shape, ContentRules}
 use Rattle.ts_shape.specs.Fields.{Within}
 use Rattle.ts_shape.proofs.ItemParts.{tag-part, alone-found, alone-again}
-use Rattle.ts_ext.specs.declared.extension.Extension.{Extension as Lent}
+use Rattle.ts_extensions.specs.declared.extension.Extension.{Extension as Borrowed}
 use Rattle.ts_ext.specs.declared.known.Holder.{Holder}
 use Rattle.ts_ext.specs.declared.known.Holder.TheVariants.{Certificate as CertificateHolder}
 use Rattle.ts_ext.specs.declared.known.Known.{Known}
 use Rattle.ts_ext.specs.AuthorityKey.{content_octets_of}
 use Rattle.ts_ext.specs.Ext.{ExtValue, IsExt, layout_of, read_as, content_of, ext_of}
-use Rattle.ts_ext.specs.Extension.{Extension, Located, unlocated}
-use Rattle.ts_ext.specs.ExtensionView.{located_as}
+use Rattle.ts_extensions.specs.Extension.{Extension, Located, unlocated}
+use Rattle.ts_extensions.specs.ExtensionView.{located_as}
 use Rattle.ts_ext.specs.Known.{known_at, identifier_of}
 use Rattle.ts_ext.specs.Rules.{broken_rule}
-use Rattle.ts_ext.specs.ValueRules.{IsValid, AreValid}
+use Rattle.ts_extensions.specs.ValueRules.{IsValid, AreValid}
 use Rattle.ts_ext.proofs.Formats.{Format, value_of}
 use Rattle.ts_ext.proofs.Exts.{ext-again}
 use Rattle.ts_ext.proofs.KeyAndConstraints.{octets-format}
@@ -175,7 +175,7 @@ unfolding stated_value
 none-found known t xs some none = rw (known-unlocated known t xs some, sym none) refl
 
 -- else the content of the one element within its octets is
-pub one-found : (known : Known) (t : Tbs) (xs : List Located) → t.extensions ≡ Some (map unlocated xs) → (x : Lent) → Some (located_as x) ≡ find (is_known known) xs
+pub one-found : (known : Known) (t : Tbs) (xs : List Located) → t.extensions ≡ Some (map unlocated xs) → (x : Borrowed) → Some (located_as x) ≡ find (is_known known) xs
     → (r : Result Element Fault) → Answers now r (alone (tagged_as (layout_of known).tag) (now x.value)) → option_map (λ e. e.content.now) (result_ok r) ≡ stated_value known content_octets_of t
 unfolding stated_value
 one-found known t xs some x found r answers = by_answer r answers

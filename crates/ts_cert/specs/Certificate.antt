@@ -1,7 +1,7 @@
 -- A certificate (RFC 5280 4.1): what its octets say, in the standard's field names.
 use Rattle.std.specs.Prelude.{ℕ, List, [], Option, unwrap_or}
 use Rattle.ts_name.specs.Canon.{Attr}
-use Rattle.ts_ext.specs.Extension.{Extension}
+use Rattle.ts_extensions.specs.Extension.{Extension}
 use Rattle.ts_cert.specs.declared.version.Version.{Version}
 use Rattle.ts_field.specs.Algorithm.{Algorithm}
 use Rattle.ts_cert.specs.declared.validity.Validity.{Validity}

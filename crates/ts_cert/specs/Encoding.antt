@@ -7,8 +7,8 @@ use Rattle.ts_name.specs.NameEncoding.{IsName}
 use Rattle.ts_shape.specs.Fields.{Within, IfAny, IsInteger, IsBits}
 use Rattle.ts_shape.specs.Repeats.{first_repeated}
 use Rattle.ts_ext.specs.declared.known.Holder.TheVariants.{Certificate as CertificateHolder}
-use Rattle.ts_ext.specs.Extension.{AreExplicit}
-use Rattle.ts_ext.specs.ValueRules.{AreValid}
+use Rattle.ts_extensions.specs.Extension.{AreExplicit}
+use Rattle.ts_extensions.specs.ValueRules.{AreValid}
 use Rattle.ts_field.specs.Algorithm.{IsAlgorithm}
 use Rattle.ts_field.specs.Time.{IsTime}
 use Rattle.ts_cert.specs.declared.version.Version.{Version}

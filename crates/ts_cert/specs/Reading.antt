@@ -14,7 +14,7 @@ use Rattle.ts_shape.specs.declared.fault.CertFault.{CertFault}
 use Rattle.ts_shape.specs.Fault.{der, breaks}
 use Rattle.ts_shape.specs.Fields.{within, integer_at, bits_at, optional_of}
 use Rattle.ts_name.specs.Names.{name_at}
-use Rattle.ts_ext.specs.Extension.{unlocated, explicit_all_located_of}
+use Rattle.ts_extensions.specs.Extension.{unlocated, explicit_all_located_of}
 use Rattle.ts_field.specs.Algorithm.{algorithm_of, algorithm_at}
 use Rattle.ts_field.specs.Time.{time_at}
 use Rattle.ts_cert.specs.declared.validity.Validity.{Validity}

@@ -6,8 +6,8 @@ use Rattle.ts_shape.specs.declared.fault.CertFault.{CertFault}
 use Rattle.ts_shape.specs.Fault.{breaks}
 use Rattle.ts_shape.specs.Shape.{◌or_else◌}
 use Rattle.ts_ext.specs.declared.known.Holder.TheVariants.{Certificate as CertificateHolder}
-use Rattle.ts_ext.specs.Extension.{Located}
-use Rattle.ts_ext.specs.ValueRules.{extension_list_fault}
+use Rattle.ts_extensions.specs.Extension.{Located}
+use Rattle.ts_extensions.specs.ValueRules.{extension_list_fault}
 use Rattle.ts_cert.specs.declared.version.Version.{Version}
 use Rattle.ts_cert.specs.declared.version.Version.TheVariants.{V1, V2, V3}
 use Rattle.ts_cert.specs.Certificate.{Tbs}

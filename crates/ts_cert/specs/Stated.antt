@@ -11,8 +11,8 @@ use Rattle.ts_shape.specs.Fields.{Within}
 use Rattle.ts_shape.specs.Items.{alone, of_tag}
 use Rattle.ts_ext.specs.declared.known.Known.{Known}
 use Rattle.ts_ext.specs.Ext.{layout_of}
-use Rattle.ts_ext.specs.Extension.{Extension}
-use Rattle.ts_ext.specs.Stated.{IsStated}
+use Rattle.ts_extensions.specs.Extension.{Extension}
+use Rattle.ts_extensions.specs.Stated.{IsStated}
 use Rattle.ts_ext.specs.Known.{identifier_of}
 use Rattle.ts_cert.specs.Certificate.{Tbs, all_extensions}
 

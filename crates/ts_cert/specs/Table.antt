@@ -16,7 +16,7 @@ use Rattle.ts_shape.specs.Shape.{◌or_else◌, judge, der_rules, no_rules, one_
 use Rattle.ts_shape.specs.Shape.{sequence}
 use Rattle.ts_shape.specs.Rows.{integer, bit_string}
 use Rattle.ts_name.specs.NameRows.{name}
-use Rattle.ts_ext.specs.Extension.{explicit_extensions}
+use Rattle.ts_extensions.specs.Extension.{explicit_extensions}
 use Rattle.ts_field.specs.Table.{time, algorithm_identifier, from_front}
 use Rattle.ts_cert.specs.Rules.{extensions_fault}
 use Rattle.ts_cert.specs.Reading.{UncheckedCertificate, signed_of}

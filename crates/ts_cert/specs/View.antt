@@ -1,9 +1,9 @@
--- What contracts see of the parts that a certificate lends: octets, without where they lie in
--- memory.
+-- What contracts see of the parts that are borrowed from a certificate: octets, without where they
+-- lie in memory.
 use Rattle.std.specs.Prelude.{map, option_map}
 use Rattle.ts_der.specs.BitsView.{parts_of}
 use Rattle.ts_name.specs.NameView.{rdns_in}
-use Rattle.ts_ext.specs.Extension.{unlocated}
+use Rattle.ts_extensions.specs.Extension.{unlocated}
 use Rattle.ts_field.specs.View.{algorithm_in}
 use Rattle.ts_cert.specs.declared.key.SubjectPublicKeyInfo.{SubjectPublicKeyInfo}
 use Rattle.ts_cert.specs.declared.optional_fields.OptionalFields.{OptionalFields as Late}

@@ -24,9 +24,6 @@ use ts_field::AlgorithmIdentifier;
 use ts_name::Name;
 use ts_shape::CertFault;
 
-/// The greatest number of octets that a certificate may have in this profile.
-pub const MAX_CERTIFICATE: usize = 65_536;
-
 /// A certificate as it lies in the source (RFC 5280 4.1). Its octets were read, and where its parts
 /// begin is kept.
 #[derive(Clone, Copy)]

@@ -21,7 +21,7 @@ use crate::optional_reading::EXTENSIONS;
 use crate::version::{VERSION, Version};
 use ts_der::tag::{BIT_STRING, INTEGER, OBJECT_IDENTIFIER, SEQUENCE, UTC_TIME};
 use ts_der::{ContentBounds, OidRef, are_equal, bounds_at, lie_between};
-use ts_ext::are_sound_extensions;
+use ts_extensions::are_sound_extensions;
 use ts_name::is_name;
 use ts_time::begins_with_utc;
 

@@ -5,7 +5,7 @@ ghost use Rattle.std.specs.Prelude.{◌≡◌, ℕ, List, Some, None};
 ghost use Rattle.ts_ext.specs.declared.known.Holder.TheVariants.{Certificate as CertificateHolder};
 ghost use Rattle.ts_ext.specs.declared.known.Known.{Known};
 ghost use Rattle.ts_ext.specs.Ext.{ExtValue, content_of};
-ghost use Rattle.ts_ext.specs.Extension.{Extension};
+ghost use Rattle.ts_extensions.specs.Extension.{Extension};
 ghost use Rattle.ts_ext.specs.Known.{known_at, identifier_of};
 ghost use Rattle.ts_ext.specs.Rules.{broken_rule};
 ghost use Rattle.ts_cert.specs.Certificate.{Tbs, Certificate};
@@ -57,13 +57,15 @@ pub fn no_missing_value()
 /// `Cert` answer these values.
 pub fn each_value_is_encoded()
     ensures authority_key_identifier { (octets : List ℕ) (c : Certificate) → IsCertificate octets c
-        → IsEncoded extension.AuthorityKeyIdentifier authority_key_of IsAuthorityKey c.tbsCertificate }
+        → IsEncoded extension.AuthorityKeyIdentifier authority_key_of IsAuthorityKey
+        c.tbsCertificate }
     ensures subject_key_identifier { (octets : List ℕ) (c : Certificate) → IsCertificate octets c
         → IsEncoded extension.SubjectKeyIdentifier content_octets_of AreOctetsOf c.tbsCertificate }
     ensures key_usage { (octets : List ℕ) (c : Certificate) → IsCertificate octets c
         → IsEncoded extension.KeyUsage key_usage_of IsKeyUsage c.tbsCertificate }
     ensures certificate_policies { (octets : List ℕ) (c : Certificate) → IsCertificate octets c
-        → IsEncoded extension.CertificatePolicies certificate_policies_of AreCertificatePolicies c.tbsCertificate }
+        → IsEncoded extension.CertificatePolicies certificate_policies_of AreCertificatePolicies
+        c.tbsCertificate }
     ensures policy_mappings { (octets : List ℕ) (c : Certificate) → IsCertificate octets c
         → IsEncoded extension.PolicyMappings policy_mappings_of ArePolicyMappings c.tbsCertificate }
     ensures subject_alt_name { (octets : List ℕ) (c : Certificate) → IsCertificate octets c
@@ -71,11 +73,13 @@ pub fn each_value_is_encoded()
     ensures issuer_alt_name { (octets : List ℕ) (c : Certificate) → IsCertificate octets c
         → IsEncoded extension.IssuerAltName general_names_of AreGeneralNames c.tbsCertificate }
     ensures basic_constraints { (octets : List ℕ) (c : Certificate) → IsCertificate octets c
-        → IsEncoded extension.BasicConstraints basic_constraints_of IsBasicConstraints c.tbsCertificate }
+        → IsEncoded extension.BasicConstraints basic_constraints_of IsBasicConstraints
+        c.tbsCertificate }
     ensures name_constraints { (octets : List ℕ) (c : Certificate) → IsCertificate octets c
         → IsEncoded extension.NameConstraints name_constraints_of AreConstraints c.tbsCertificate }
     ensures policy_constraints { (octets : List ℕ) (c : Certificate) → IsCertificate octets c
-        → IsEncoded extension.PolicyConstraints policy_constraints_of IsPolicyConstraints c.tbsCertificate }
+        → IsEncoded extension.PolicyConstraints policy_constraints_of IsPolicyConstraints
+        c.tbsCertificate }
     ensures extended_key_usage { (octets : List ℕ) (c : Certificate) → IsCertificate octets c
         → IsEncoded extension.ExtendedKeyUsage ext_key_usage_of AreKeyPurposes c.tbsCertificate }
     ensures crl_distribution_points { (octets : List ℕ) (c : Certificate) → IsCertificate octets c

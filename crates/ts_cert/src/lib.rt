@@ -85,7 +85,7 @@ mod tbs;
 mod validity;
 mod version;
 
-pub use certificate::{Cert, MAX_CERTIFICATE};
+pub use certificate::Cert;
 pub use key::SubjectPublicKeyInfo;
 pub use owned::{OwnedCert, OwnedCertFault};
 pub use validity::Validity;

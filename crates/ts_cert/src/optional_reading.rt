@@ -5,14 +5,15 @@ ghost use Rattle.ts_der.specs.Answer.{Answers};
 ghost use Rattle.ts_der.specs.BitsView.{parts_of};
 ghost use Rattle.ts_shape.specs.Fields.{optional_of};
 ghost use Rattle.ts_shape.specs.Steps.{Takes};
-ghost use Rattle.ts_ext.specs.Extension.{explicit_all_located_of};
+ghost use Rattle.ts_extensions.specs.Extension.{explicit_all_located_of};
 ghost use Rattle.ts_cert.specs.Reading.{unique_identifier_of, optional_fields_at};
 ghost use Rattle.ts_cert.specs.inside.AllLocated.{all_located_within, fault_within};
 ghost use Rattle.ts_cert.specs.View.{optional_fields_in};
 
 use crate::optional_fields::{OptionalFields, Places};
 use ts_der::{Bits, Element, Fault, Reader};
-use ts_ext::{CheckedExtensions, Holder};
+use ts_ext::Holder;
+use ts_extensions::CheckedExtensions;
 use ts_shape::CertFault;
 
 /// The tag of the issuer's unique identifier (RFC 5280 4.1).

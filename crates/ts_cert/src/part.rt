@@ -6,7 +6,7 @@ ghost use Rattle.ts_name.specs.Canon.{Attr};
 ghost use Rattle.ts_shape.specs.Fields.{Within, IsInteger, IsBits};
 ghost use Rattle.ts_name.specs.NameEncoding.{IsName};
 ghost use Rattle.ts_name.specs.NameView.{rdns_in};
-ghost use Rattle.ts_ext.specs.Extension.{Extension, AreExplicit, unlocated};
+ghost use Rattle.ts_extensions.specs.Extension.{Extension, AreExplicit, unlocated};
 ghost use Rattle.ts_field.specs.Algorithm.{Algorithm, IsAlgorithm};
 ghost use Rattle.ts_field.specs.View.{algorithm_in};
 ghost use Rattle.ts_cert.specs.declared.validity.Validity.{Validity as Period};

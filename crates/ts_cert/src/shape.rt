@@ -7,13 +7,13 @@ ghost use Rattle.ts_cert.specs.Reading.{signed_of, with_one_algorithm, whole_of,
 ghost use Rattle.ts_cert.specs.CertView.{unagreed_in, parts_in};
 
 use crate::algorithm::read_algorithm_beside;
-use crate::certificate::MAX_CERTIFICATE;
 use crate::parts::Parts;
 use crate::rules::broken_rule;
 use crate::tbs::read_tbs;
 use ts_der::tag::SEQUENCE;
 use ts_der::{DerFault, Element, Reader};
 use ts_field::next_bits;
+use ts_octets::MAX_CERTIFICATE;
 use ts_shape::{CertFault, CertRule};
 
 /// The parts that a SEQUENCE holds, of which the two algorithm identifiers have not been compared.

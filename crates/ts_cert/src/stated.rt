@@ -9,8 +9,8 @@ ghost use Rattle.ts_der.specs.View.{now};
 ghost use Rattle.ts_shape.specs.Items.{alone, tagged_as as tagged_as_of};
 ghost use Rattle.ts_ext.specs.declared.known.Known.TheVariants as extension;
 ghost use Rattle.ts_ext.specs.AuthorityKey.{content_octets_of, authority_key_of};
-ghost use Rattle.ts_ext.specs.Extension.{unlocated};
-ghost use Rattle.ts_ext.specs.ExtensionView.{extensions_in};
+ghost use Rattle.ts_extensions.specs.Extension.{unlocated};
+ghost use Rattle.ts_extensions.specs.ExtensionView.{extensions_in};
 ghost use Rattle.ts_ext.specs.GeneralNames.{general_names_of};
 ghost use Rattle.ts_ext.specs.NameConstraints.{name_constraints_of};
 ghost use Rattle.ts_ext.specs.NameViews.{alternatives_in, authority_key_in, name_constraints_in};
@@ -30,9 +30,10 @@ use crate::part::{extensions_from, unique_id_from};
 use ts_der::{Bits, Element, Fault};
 use ts_ext::{
     AlternativeNames, AuthorityKeyIdentifier, BasicConstraints, CertificatePolicies,
-    DistributionPoints, ExtendedKeyUsage, Extensions, KeyUsage, Known, NameConstraints,
-    PolicyConstraints, PolicyMappings, SkipCerts,
+    DistributionPoints, ExtendedKeyUsage, KeyUsage, Known, NameConstraints, PolicyConstraints,
+    PolicyMappings, SkipCerts,
 };
+use ts_extensions::Extensions;
 use ts_shape::tagged_as;
 
 /// The one element within another, which has this tag.

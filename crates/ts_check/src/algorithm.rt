@@ -199,9 +199,9 @@ pub fn algorithm_named(identifier: &[u8]) -> Option<SignatureAlgorithm>
     named_with(identifier, Hash::Sha512)
 }
 
-/// The function by which the algorithm that an identifier names hashes what is signed: the signature
-/// depends on nothing else of it. `None` for Ed25519, which signs the octets themselves, and for
-/// what names no algorithm.
+/// The function by which the algorithm that an identifier names hashes what is signed: the
+/// signature depends on nothing else of it. `None` for Ed25519, which signs the octets themselves,
+/// and for what names no algorithm.
 #[tactic(auto, unfolding(crate::specs::Native::hash_named))]
 pub fn hash_named(identifier: &[u8]) -> Option<Hash>
     ensures { result ≡ hash_named identifier.now }

@@ -12,8 +12,8 @@ use crate::rsa::{pkcs1_takes, pss_takes};
 use ts_digest::Message;
 use ts_sig::{SignatureCheck, WorkingKey};
 
-/// Checks signatures by RSA, ECDSA and Ed25519. It has no state: each node that has this version answers
-/// alike.
+/// Checks signatures by RSA, ECDSA and Ed25519. It has no state: each node that has this version
+/// answers alike.
 #[derive(Clone, Copy, Debug)]
 pub struct NativeCheck;
 

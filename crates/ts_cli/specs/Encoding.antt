@@ -1,9 +1,9 @@
 -- The command and the question that words say.
 use Rattle.std.specs.Prelude.{ℕ, Bool, false, nat_lt, List, [], length}
-use Rattle.ts_store.specs.declared.command.Command.{Command}
-use Rattle.ts_store.specs.declared.command.Command.TheVariants.{AddAnchor, WithdrawAnchor, LoadCrl}
-use Rattle.ts_store.specs.declared.command.Command.TheVariants.{DropCrl, SetPurposes}
-use Rattle.ts_store.specs.declared.command.Command.TheVariants as command
+use Rattle.ts_command.specs.declared.command.Command.{Command}
+use Rattle.ts_command.specs.declared.command.Command.TheVariants.{AddAnchor, WithdrawAnchor}
+use Rattle.ts_command.specs.declared.command.Command.TheVariants.{LoadCrl, DropCrl, SetPurposes}
+use Rattle.ts_command.specs.declared.command.Command.TheVariants as command
 use Rattle.ts_question.specs.Question.{StoreQuestion}
 use Rattle.ts_question.specs.declared.terms.Terms.{Terms}
 use Rattle.ts_question.specs.declared.question.Target.{Target}

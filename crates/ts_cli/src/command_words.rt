@@ -13,8 +13,8 @@ use crate::matched::{is_set, string_at, strings_at, text_at, value_at};
 use crate::oids::{oids_at, purposes_of};
 use clap::ArgMatches;
 use std::alloc::Global;
+use ts_command::Purposes;
 use ts_literal::{digest_of, id_of};
-use ts_store::Purposes;
 
 /// The words of a command.
 #[derive(Debug, Drop)]

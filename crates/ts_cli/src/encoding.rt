@@ -4,9 +4,9 @@ ghost use Rattle.std.specs.Prelude.{◌≡◌, ◌⊎◌, ◌<◌, true, false, 
 ghost use Rattle.std.specs.Prelude.{string_bytes};
 ghost use Rattle.hex.specs.Hex.{encode_lower};
 ghost use Rattle.sha2.specs.Sha256.{sha256};
-ghost use Rattle.ts_store.specs.Commands as commands;
-ghost use Rattle.ts_store.specs.declared.command.Command.TheVariants.{AddAnchor, LoadCrl};
-ghost use Rattle.ts_store.specs.declared.command.Command.TheVariants.{SetPurposes};
+ghost use Rattle.ts_command.specs.Commands as commands;
+ghost use Rattle.ts_command.specs.declared.command.Command.TheVariants.{AddAnchor, LoadCrl};
+ghost use Rattle.ts_command.specs.declared.command.Command.TheVariants.{SetPurposes};
 ghost use Rattle.ts_question.specs.Question as questions;
 ghost use Rattle.ts_cli.specs.Encoding.{command_in, is_too_long, terms_in, asked_in};
 ghost use Rattle.ts_cli.specs.declared.encoding.MakeFault.TheVariants.{Memory, TooLong};
@@ -16,12 +16,10 @@ use crate::command_words::CommandAction;
 use crate::question_words::{QuestionWords, Subject, TermWords};
 use sha2::{Digest, Sha256};
 use std::alloc::{AllocError, AllocFailed, Global};
-use ts_cert::MAX_CERTIFICATE;
-use ts_crl::MAX_CRL;
+use ts_command::{Command, Purposes};
 use ts_der::Oid;
-use ts_octets::Octets;
+use ts_octets::{MAX_CERTIFICATE, MAX_CRL, Octets};
 use ts_question::{OctetStrings, Oids, Question, Terms};
-use ts_store::{Command, Purposes};
 
 /// Why words have no encoding.
 #[derive(Clone, Copy, Debug, PartialEq, Eq)]

@@ -11,8 +11,8 @@ use crate::fault::{CommandFault, WrongValue};
 use crate::matched::{value_at, values_at};
 use clap::ArgMatches;
 use std::alloc::Global;
+use ts_command::Purposes;
 use ts_der::{Oid, OidTextError};
-use ts_store::Purposes;
 
 /// The object identifier of a dotted form.
 fn oid_of(alloc: Global, text: &str) -> Result<Oid, CommandFault>

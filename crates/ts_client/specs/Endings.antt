@@ -1,7 +1,7 @@
 -- How a client's task ends, by what a node answers.
 use Rattle.std.specs.Prelude.{Bool, true, false, ◌&&◌, not, if◌then◌else◌}
-use Rattle.ts_store.specs.declared.outcome.Outcome.{Outcome}
-use Rattle.ts_store.specs.declared.outcome.Outcome.TheVariants.{Applied, Repeated, Refused}
+use Rattle.ts_command.specs.declared.outcome.Outcome.{Outcome}
+use Rattle.ts_command.specs.declared.outcome.Outcome.TheVariants.{Applied, Repeated, Refused}
 use Rattle.ts_question.specs.declared.reply.Reply.{Reply}
 use Rattle.ts_question.specs.declared.reply.Reply.TheVariants.{Valid, Found}
 use Rattle.ts_client.specs.declared.ended.Ending.{Ending}

@@ -3,8 +3,8 @@
 ghost use Rattle.std.specs.Prelude.{◌≡◌};
 ghost use Rattle.ts_client.specs.Endings.{ending_by, ending_of, is_valid};
 
+use ts_command::Outcome;
 use ts_question::Reply;
-use ts_store::Outcome;
 
 /// How a task that did not fail ended.
 #[derive(Clone, Copy, Debug, PartialEq, Eq)]

@@ -16,11 +16,11 @@ use std::random::RandomSource;
 use std::rt::{Clock, Files};
 use std::time::Duration;
 use ts_cli::Reach;
+use ts_command::Command;
 use ts_explain::explanation;
-use ts_lab::text::{outcome_text, reply_text};
 use ts_question::{Answer, Question};
 use ts_serve::{Peer, TcpPeer, carry};
-use ts_store::Command;
+use ts_show::reply_text;
 use ts_wire::{Feed, FeedError, Frame, FrameFault, WriteError, write_frame};
 
 /// The one frame that a peer answers a request with.
@@ -97,11 +97,10 @@ fn submit_said(alloc: Global, answer: &Frame) -> Result<Saying, TaskFault> {
             })
         }
         Frame::Settled { position, outcome } => {
-            let position = *position;
-            let text = outcome_text(alloc, *outcome)?;
+            let (position, outcome) = (*position, *outcome);
             Ok(Saying {
-                line: format!(in alloc; "submit settled {position} {text}\n")?,
-                ended: ending_of(*outcome),
+                line: format!(in alloc; "submit settled {position} {outcome}\n")?,
+                ended: ending_of(outcome),
             })
         }
         _ => Err(TaskFault::Frame(FrameFault::Kind)),

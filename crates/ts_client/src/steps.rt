@@ -2,10 +2,11 @@
 
 use crate::fault::TaskFault;
 use std::alloc::{AllocError, Global};
+use ts_command::{Command, TooLong};
 use ts_octets::Octets;
 use ts_question::{AnchorRow, CrlRow};
 use ts_show::Line;
-use ts_store::{Command, TooLong, digest};
+use ts_store::digest;
 use ts_sync::{Holding, PlanStep, StepKind, plan_named};
 
 /// A certificate or a CRL that a file holds.

@@ -18,9 +18,8 @@ use std::random::RandomSource;
 use std::rt::{Clock, Files};
 use std::time::Duration;
 use ts_cli::SyncWords;
-use ts_lab::text::outcome_text;
+use ts_command::Outcome;
 use ts_show::{Kind, Line};
-use ts_store::Outcome;
 use ts_sync::PlanStep;
 use ts_wire::Frame;
 
@@ -124,7 +123,7 @@ fn print_settled(
 ) -> Result<(), TaskFault> {
     line.text(b" settled ")?;
     line.number(u64::from(position))?;
-    line.word(outcome_text(alloc, outcome)?.as_bytes())?;
+    line.word(format!(in alloc; "{outcome}")?.as_bytes())?;
     print_line(rt, alloc, &line)
 }
 

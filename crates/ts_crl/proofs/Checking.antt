@@ -12,7 +12,7 @@ use Rattle.ts_crl.specs.Kept.{unreadable_in, RefusedFor}
 use Rattle.ts_crl.specs.List.{LocatedList}
 use Rattle.ts_crl.specs.Reading.{shape_of}
 use Rattle.ts_crl.specs.Table.{crl_fault, list_fault}
-use Rattle.ts_crl.proofs.Lending.{faulted, none-some, quiet}
+use Rattle.ts_crl.proofs.Borrowing.{faulted, none-some, quiet}
 
 -- a list that breaks no rule was read
 abbrev pub was-read : (first : Option CertFault) (octets : List ℕ) (l : LocatedList) → AreOctets octets → shape_of octets ≡ Ok l → list_fault l ≡ None

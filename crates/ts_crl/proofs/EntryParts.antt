@@ -15,8 +15,8 @@ use Rattle.ts_shape.proofs.ItemParts.{tag-part, alone-found, alone-again, many-f
 use Rattle.ts_shape.proofs.OptionalParts.{optional-found, optional-again}
 use Rattle.ts_shape.proofs.Parts.{Value, took}
 use Rattle.ts_shape.proofs.Endings.{end-ok, end-again}
-use Rattle.ts_ext.specs.Extension.{Extension, Located, unlocated, located_of, located_in, extension_of, extensions_of as stated_of, AreExtensions}
-use Rattle.ts_ext.proofs.ExtensionParts.{extensions-format}
+use Rattle.ts_extensions.specs.Extension.{Extension, Located, unlocated, located_of, located_in, extension_of, extensions_of as stated_of, AreExtensions}
+use Rattle.ts_extensions.proofs.ExtensionParts.{extensions-format}
 use Rattle.ts_ext.proofs.Formats.{value_of}
 use Rattle.ts_field.specs.declared.time.Time.{Time}
 use Rattle.ts_field.specs.Time.{time_at}

@@ -4,7 +4,7 @@ use Rattle.std.specs.List.{find, list_any}
 use Rattle.std.specs.Prelude.{map, is_some, option_map}
 use Rattle.std.specs.Str.{bytes_eq}
 use Rattle.ts_ext.specs.declared.known.Known.{Known}
-use Rattle.ts_ext.specs.Extension.{Located, unlocated}
+use Rattle.ts_extensions.specs.Extension.{Located, unlocated}
 use Rattle.ts_ext.specs.Known.{identifier_of}
 use Rattle.ts_crl.specs.Values.{is_known}
 

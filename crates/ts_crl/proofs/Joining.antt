@@ -16,8 +16,8 @@ use Rattle.ts_shape.specs.Shape.{◌or_else◌}
 use Rattle.ts_shape.proofs.ItemParts.{some-walked}
 use Rattle.ts_ext.specs.declared.known.Holder.TheVariants.{Entry}
 use Rattle.ts_ext.specs.declared.known.Known.TheVariants.{CertificateIssuer}
-use Rattle.ts_ext.specs.Extension.{Extension, Located, unlocated}
-use Rattle.ts_ext.specs.ValueRules.{value_fault, values_fault}
+use Rattle.ts_extensions.specs.Extension.{Extension, Located, unlocated}
+use Rattle.ts_extensions.specs.ValueRules.{value_fault, values_fault}
 use Rattle.ts_field.specs.declared.time.Time.{Time}
 use Rattle.ts_field.specs.Time.{time_at}
 use Rattle.ts_crl.specs.declared.extension_rule.ExtensionRule.{ExtensionRule}

@@ -22,9 +22,9 @@ use Rattle.ts_shape.proofs.ItemParts.{tag-reads, alone-judged}
 use Rattle.ts_shape.proofs.Judging.{Judged, weaker, bind, no_more, no_less, element-judged, then-judged, end-judged, under, ends, value-judged, Whatever, integer-reads, bits-reads, items-judged}
 use Rattle.ts_name.proofs.NameJudging.{name-reads}
 use Rattle.ts_shape.proofs.OptionalParts.{optional-judged}
-use Rattle.ts_ext.specs.Extension.{extensions as extension_items, extensions_of as stated_of}
+use Rattle.ts_extensions.specs.Extension.{extensions as extension_items, extensions_of as stated_of}
 use Rattle.ts_ext.specs.Table.{list_rules}
-use Rattle.ts_ext.proofs.ExtensionParts.{extensions-format}
+use Rattle.ts_extensions.proofs.ExtensionParts.{extensions-format}
 use Rattle.ts_field.specs.Algorithm.{algorithm_of, algorithm_at}
 use Rattle.ts_field.specs.Table.{algorithm_identifier, time, from_front}
 use Rattle.ts_field.specs.Time.{time_at}

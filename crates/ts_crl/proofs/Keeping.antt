@@ -9,9 +9,9 @@ use Rattle.ts_shape.specs.Shape.{◌or_else◌}
 use Rattle.ts_ext.specs.declared.known.Holder.{Holder}
 use Rattle.ts_ext.specs.declared.known.Holder.TheVariants.{Certificate, List as ListHolder, Entry}
 use Rattle.ts_ext.specs.declared.known.Known.TheVariants.{DeltaCrlIndicator}
-use Rattle.ts_ext.specs.Extension.{Located, unlocated}
-use Rattle.ts_ext.specs.ValueRules.{AreValid}
-use Rattle.ts_ext.proofs.ValidExtensions.{AllOctets, are-sound, no-fault}
+use Rattle.ts_extensions.specs.Extension.{Located, unlocated}
+use Rattle.ts_extensions.specs.ValueRules.{AreValid}
+use Rattle.ts_extensions.proofs.ValidExtensions.{AllOctets, are-sound, no-fault}
 use Rattle.ts_crl.specs.declared.extension_rule.ExtensionRule.{ExtensionRule}
 use Rattle.ts_crl.specs.declared.extension_rule.ExtensionRule.TheVariants.{OldVersion, Repeated, Values}
 use Rattle.ts_crl.specs.declared.version.ListVersion.{ListVersion}

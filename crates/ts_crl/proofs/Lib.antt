@@ -15,6 +15,6 @@ pub mod PlacedLaws
 pub mod Crls
 pub mod Judging
 pub mod OneEncoding
-mod Lending
+mod Borrowing
 mod Magnitudes
 pub mod StatedValues

@@ -24,7 +24,7 @@ use Rattle.ts_name.proofs.NameParts.{name-part}
 use Rattle.ts_shape.proofs.OptionalParts.{begins-if-any, optional-found, optional-again}
 use Rattle.ts_shape.proofs.Parts.{took, element-took, der-ok}
 use Rattle.ts_shape.proofs.Endings.{end-ok, end-again}
-use Rattle.ts_ext.specs.Extension.{Extension, AreExtensions}
+use Rattle.ts_extensions.specs.Extension.{Extension, AreExtensions}
 use Rattle.ts_field.specs.declared.time.Time.{Time}
 use Rattle.ts_field.specs.Algorithm.{Algorithm, algorithm_of, algorithm_at}
 use Rattle.ts_field.specs.Time.{time_at}

@@ -3,8 +3,8 @@ use Rattle.std.proofs.Common.{◌≡◌, ℕ, List, Option, Some, None, refl, sy
 use Rattle.ts_shape.specs.Fields.{Within, IsInteger}
 use Rattle.ts_shape.proofs.OneEncoding.{One, one-within, one-if-any, one-items}
 use Rattle.ts_name.specs.NameEncoding.{IsName}
-use Rattle.ts_ext.specs.Extension.{AreExtensions}
-use Rattle.ts_ext.proofs.OneExtension.{one-extensions, one-explicit}
+use Rattle.ts_extensions.specs.Extension.{AreExtensions}
+use Rattle.ts_extensions.proofs.OneExtension.{one-extensions, one-explicit}
 use Rattle.ts_field.specs.declared.time.Time.{Time}
 use Rattle.ts_field.proofs.OneEncoding.{one-algorithm, one-name, one-time}
 use Rattle.ts_crl.specs.List.{TbsCertList}

@@ -6,8 +6,8 @@ use Rattle.std.proofs.lemmas.Slice.Eq.{bytes_eq-Decides}
 use Rattle.ts_shape.specs.Repeats.{first_repeated}
 use Rattle.ts_shape.specs.Shape.{◌or_else◌}
 use Rattle.ts_ext.specs.declared.known.Holder.TheVariants.{List as ListHolder, Entry}
-use Rattle.ts_ext.specs.Extension.{Extension}
-use Rattle.ts_ext.specs.ValueRules.{IsValid, AreValid}
+use Rattle.ts_extensions.specs.Extension.{Extension}
+use Rattle.ts_extensions.specs.ValueRules.{IsValid, AreValid}
 use Rattle.ts_crl.specs.declared.extension_rule.ExtensionRule.TheVariants.{Repeated, Values}
 use Rattle.ts_crl.specs.declared.version.ListVersion.TheVariants.{V2}
 use Rattle.ts_crl.specs.Entries.{entries_of}

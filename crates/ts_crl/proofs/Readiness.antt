@@ -13,8 +13,8 @@ use Rattle.ts_shape.specs.Fields.{integer_at, optional_of}
 use Rattle.ts_shape.specs.Items.{each, alone, tagged_as, of_tag, some_of}
 use Rattle.ts_shape.proofs.FieldParts.{integer-part}
 use Rattle.ts_shape.proofs.Parts.{took, element-took}
-use Rattle.ts_ext.specs.Extension.{located_in}
-use Rattle.ts_ext.proofs.ValidExtensions.{AllOctets, some-octets}
+use Rattle.ts_extensions.specs.Extension.{located_in}
+use Rattle.ts_extensions.proofs.ValidExtensions.{AllOctets, some-octets}
 use Rattle.ts_field.specs.Time.{time_at}
 use Rattle.ts_field.proofs.Times.{time-part}
 use Rattle.ts_crl.specs.List.{LocatedExtensions, LocatedEntry, LocatedTbsList}

@@ -16,10 +16,10 @@ use Rattle.ts_ext.specs.declared.reason_code.ReasonCode.{ReasonCode}
 use Rattle.ts_ext.specs.AuthorityKey.{AuthorityKey, IsAuthorityKey}
 use Rattle.ts_ext.specs.Encoding.{IsCrlNumber, IsReasonCode, IsInvalidityDate}
 use Rattle.ts_ext.specs.Ext.{ExtValue, cRLNumber, authorityKeyIdentifier, reasonCode, invalidityDate, issuingDistributionPoint, layout_of, IsContent, IsExt, ext_of}
-use Rattle.ts_ext.specs.Extension.{Extension}
+use Rattle.ts_extensions.specs.Extension.{Extension}
 use Rattle.ts_ext.specs.Known.{known_at, list_extension, entry_extension, identifier_of}
 use Rattle.ts_ext.specs.Points.{ListScope, IsIssuingPoint}
-use Rattle.ts_ext.specs.ValueRules.{IsValidValue, IsValid, AreValid}
+use Rattle.ts_extensions.specs.ValueRules.{IsValidValue, IsValid, AreValid}
 use Rattle.ts_ext.proofs.Exts.{ext-again}
 use Rattle.ts_crl.specs.declared.extension_rule.ExtensionRule.TheVariants.{Values}
 use Rattle.ts_crl.specs.Encoding.{IsCertificateList}
@@ -27,7 +27,7 @@ use Rattle.ts_crl.specs.Entries.{entries_of}
 use Rattle.ts_crl.specs.List.{RevokedCertificate, CertificateList}
 use Rattle.ts_crl.specs.Profile.{as_scope, scope_of}
 use Rattle.ts_crl.specs.Rules.{as_ruled, KeepsIfAny, EntriesKeep}
-use Rattle.ts_ext.specs.Stated.{IsValueOf, IsStated}
+use Rattle.ts_extensions.specs.Stated.{IsValueOf, IsStated}
 use Rattle.ts_crl.specs.Values.{is_known, list_extensions, entry_extensions_of, ok_of}
 use Rattle.ts_crl.specs.Values.{value_in_octets, value_if_any, value_among, as_number, crl_number}
 use Rattle.ts_crl.specs.Values.{with_number, base_number, as_key, key_of, as_reason, reason_of}

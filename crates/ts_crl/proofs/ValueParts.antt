@@ -29,9 +29,9 @@ anywhere known e fits = by_value (ext_of known e) refl (ext_of known front) refl
     by_value (Err f) a (Ok y) b = ap (λ (q : Result ExtValue Fault). ok_of q) (sym a ∙ moved known front e y refl fits b)
     by_value (Err f) a (Err g) b = refl
 
-pub lent-anywhere : (known : Option Known) (e : Tlv) → AreOctets e.content → (r : Result Ext Fault) (o : Option Ext) → Answers ext_in r (ext_of known e) → o ≡ result_ok r
+pub borrowed-anywhere : (known : Option Known) (e : Tlv) → AreOctets e.content → (r : Result Ext Fault) (o : Option Ext) → Answers ext_in r (ext_of known e) → o ≡ result_ok r
     → option_map ext_in o ≡ value_in_octets known e.content
-lent-anywhere known e fits r o read is = ap (λ (q : Option Ext). option_map ext_in q) is ∙ (by_result r read ∙ anywhere known e fits)
+borrowed-anywhere known e fits r o read is = ap (λ (q : Option Ext). option_map ext_in q) is ∙ (by_result r read ∙ anywhere known e fits)
   where
     by_result : (r : Result Ext Fault) → Answers ext_in r (ext_of known e) → option_map ext_in (result_ok r) ≡ ok_of (ext_of known e)
     by_result (Ok x) a = ap (λ (q : Result ExtValue Fault). ok_of q) (sym a)

@@ -5,7 +5,7 @@ use Rattle.ts_der.specs.Element.{encode}
 use Rattle.ts_name.specs.NameEncoding.{IsName}
 use Rattle.ts_shape.specs.Fields.{Within, IfAny, IsInteger, IsBits}
 use Rattle.ts_shape.specs.Items.{AreItems}
-use Rattle.ts_ext.specs.Extension.{AreExtensions}
+use Rattle.ts_extensions.specs.Extension.{AreExtensions}
 use Rattle.ts_field.specs.declared.time.Time.{Time}
 use Rattle.ts_field.specs.Time.{IsTime}
 use Rattle.ts_field.specs.Algorithm.{IsAlgorithm}

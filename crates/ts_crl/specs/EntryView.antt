@@ -3,9 +3,9 @@ use Rattle.std.specs.Prelude.{List, map, option_map}
 use Rattle.ts_der.specs.Element.{inside}
 use Rattle.ts_der.specs.View.{now}
 use Rattle.ts_shape.specs.Items.{items_at}
-use Rattle.ts_ext.specs.declared.extension.Extension.{Extension as Lent}
-use Rattle.ts_ext.specs.Extension.{Extension, Located, unlocated, located_in}
-use Rattle.ts_ext.specs.ExtensionView.{located_as}
+use Rattle.ts_extensions.specs.declared.extension.Extension.{Extension as Borrowed}
+use Rattle.ts_extensions.specs.Extension.{Extension, Located, unlocated, located_in}
+use Rattle.ts_extensions.specs.ExtensionView.{located_as}
 use Rattle.ts_field.specs.View.{time_in}
 use Rattle.ts_crl.specs.declared.extension_list.ExtensionList.{ExtensionList}
 use Rattle.ts_crl.specs.declared.placed.PlacedFault.{PlacedFault}
@@ -37,5 +37,5 @@ entry_in e = unlocated_entry (entry_as e)
 abbrev pub entries_in : RevokedEntries → List RevokedCertificate
 entries_in r = map unlocated_entry (revoked_in r)
 
-abbrev pub extension_as : Lent → Extension
+abbrev pub extension_as : Borrowed → Extension
 extension_as x = unlocated (located_as x)

@@ -6,7 +6,7 @@ use Rattle.ts_shape.specs.declared.fault.CertFault.{CertFault}
 use Rattle.ts_shape.specs.Fault.{code_of}
 use Rattle.ts_shape.specs.Printed.{rule_name}
 use Rattle.ts_crl.specs.declared.fault.CrlFault.{CrlFault}
-use Rattle.ts_crl.specs.declared.fault.CrlFault.TheVariants as lent
+use Rattle.ts_crl.specs.declared.fault.CrlFault.TheVariants as borrowed
 
 pub data ListFault : Type 0 where
   -- a rule that has a place
@@ -24,12 +24,12 @@ pub data ListFault : Type 0 where
 
 -- what contracts see of a fault
 abbrev pub fault_in : CrlFault → ListFault
-fault_in (lent.Broken fault) = broken fault
-fault_in lent.NoNextUpdate = noNextUpdate
-fault_in (lent.CriticalCrlExtension oid) = criticalCrlExtension oid.now
-fault_in lent.DeltaCrl = deltaCrl
-fault_in lent.Indirect = indirect
-fault_in lent.RelativeName = relativeName
+fault_in (borrowed.Broken fault) = broken fault
+fault_in borrowed.NoNextUpdate = noNextUpdate
+fault_in (borrowed.CriticalCrlExtension oid) = criticalCrlExtension oid.now
+fault_in borrowed.DeltaCrl = deltaCrl
+fault_in borrowed.Indirect = indirect
+fault_in borrowed.RelativeName = relativeName
 
 -- the number of a fault: of one that has a place that of its rule
 abbrev pub fault_code : ListFault → ℕ

@@ -1,5 +1,5 @@
--- A list that was read and is kept: what has to be known of its entries so that it is lent again
--- without reading them.
+-- A list that was read and is kept: what has to be known of its entries so that it is borrowed
+-- again without reading them.
 use Rattle.std.specs.Prelude.{◌≡◌, ◌++◌, ℕ, codes, List, Option, Some, None, Err}
 use Rattle.ts_crl.specs.declared.owned.OwnedCrlFault.{OwnedCrlFault}
 use Rattle.ts_crl.specs.declared.owned.OwnedCrlFault.TheVariants.{Memory, Unreadable}

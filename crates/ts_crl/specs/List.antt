@@ -2,7 +2,7 @@
 -- names.
 use Rattle.std.specs.Prelude.{ℕ, List, Option, map, option_map}
 use Rattle.ts_name.specs.Canon.{Attr}
-use Rattle.ts_ext.specs.Extension.{Extension, Located, unlocated}
+use Rattle.ts_extensions.specs.Extension.{Extension, Located, unlocated}
 use Rattle.ts_field.specs.declared.time.Time.{Time}
 use Rattle.ts_field.specs.Algorithm.{Algorithm}
 use Rattle.ts_crl.specs.declared.version.ListVersion.{ListVersion}

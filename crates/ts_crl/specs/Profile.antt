@@ -10,7 +10,7 @@ use Rattle.ts_ext.specs.declared.known.Known.TheVariants.{CrlNumber, DeltaCrlInd
 use Rattle.ts_ext.specs.declared.known.Known.TheVariants.{IssuingDistributionPoint}
 use Rattle.ts_ext.specs.declared.known.Known.TheVariants.{CertificateIssuer}
 use Rattle.ts_ext.specs.Ext.{ExtValue, issuingDistributionPoint}
-use Rattle.ts_ext.specs.Extension.{Extension}
+use Rattle.ts_extensions.specs.Extension.{Extension}
 use Rattle.ts_ext.specs.Known.{known_at}
 use Rattle.ts_ext.specs.Points.{PointName, nameRelativeToCRLIssuer, ListScope}
 use Rattle.ts_crl.specs.Entries.{entries_of}

@@ -13,7 +13,7 @@ use Rattle.ts_shape.specs.Fault.{der, breaks}
 use Rattle.ts_shape.specs.Fields.{integer_at, bits_at, optional_of}
 use Rattle.ts_name.specs.Names.{name_at}
 use Rattle.ts_shape.specs.Items.{each, alone, of_tag, some_of}
-use Rattle.ts_ext.specs.Extension.{located_in}
+use Rattle.ts_extensions.specs.Extension.{located_in}
 use Rattle.ts_field.specs.declared.time.Time.{Time}
 use Rattle.ts_field.specs.Algorithm.{algorithm_of, algorithm_at}
 use Rattle.ts_field.specs.Time.{time_of, time_at}

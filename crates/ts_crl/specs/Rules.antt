@@ -11,8 +11,8 @@ use Rattle.ts_shape.specs.Shape.{◌or_else◌}
 use Rattle.ts_ext.specs.declared.known.Holder.{Holder}
 use Rattle.ts_ext.specs.declared.known.Holder.TheVariants.{List as ListHolder, Entry}
 use Rattle.ts_ext.specs.declared.known.Known.TheVariants.{DeltaCrlIndicator}
-use Rattle.ts_ext.specs.Extension.{Extension, Located, unlocated}
-use Rattle.ts_ext.specs.ValueRules.{repeated_fault, values_fault, AreValid}
+use Rattle.ts_extensions.specs.Extension.{Extension, Located, unlocated}
+use Rattle.ts_extensions.specs.ValueRules.{repeated_fault, values_fault, AreValid}
 use Rattle.ts_crl.specs.declared.extension_rule.ExtensionRule.{ExtensionRule}
 use Rattle.ts_crl.specs.declared.extension_rule.ExtensionRule.TheVariants.{OldVersion, Repeated}
 use Rattle.ts_crl.specs.declared.extension_rule.ExtensionRule.TheVariants.{Values}

@@ -13,7 +13,7 @@ use Rattle.ts_shape.specs.Shape.{nothing, ◌then◌, ◌or_else◌, judge, der_
 use Rattle.ts_shape.specs.Shape.{primitive, sequence}
 use Rattle.ts_shape.specs.Rows.{integer, bit_string}
 use Rattle.ts_name.specs.NameRows.{name}
-use Rattle.ts_ext.specs.Extension.{extensions as extension_items}
+use Rattle.ts_extensions.specs.Extension.{extensions as extension_items}
 use Rattle.ts_ext.specs.Table.{list_rules}
 use Rattle.ts_field.specs.Table.{algorithm_identifier, time, from_front}
 use Rattle.ts_crl.specs.Fault.{ListFault, broken}

@@ -16,7 +16,7 @@ use Rattle.ts_ext.specs.declared.reason_code.ReasonCode.{ReasonCode}
 use Rattle.ts_ext.specs.AuthorityKey.{AuthorityKey}
 use Rattle.ts_ext.specs.Ext.{ExtValue, cRLNumber, authorityKeyIdentifier, reasonCode}
 use Rattle.ts_ext.specs.Ext.{invalidityDate, ext_of}
-use Rattle.ts_ext.specs.Extension.{Extension, Located}
+use Rattle.ts_extensions.specs.Extension.{Extension, Located}
 use Rattle.ts_ext.specs.Known.{known_at, identifier_of}
 use Rattle.ts_crl.specs.List.{RevokedCertificate, CertificateList}
 

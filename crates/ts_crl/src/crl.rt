@@ -3,7 +3,7 @@
 ghost use Rattle.std.specs.Prelude.{◌≡◌, ◌↔◌, None, false, map, option_map, IfOk, IsOkAnd};
 ghost use Rattle.ts_der.specs.Answer.{refusal};
 ghost use Rattle.ts_name.specs.NameView.{rdns_in};
-ghost use Rattle.ts_ext.specs.ExtensionView.{extensions_in};
+ghost use Rattle.ts_extensions.specs.ExtensionView.{extensions_in};
 ghost use Rattle.ts_field.specs.View.{algorithm_in};
 ghost use Rattle.ts_crl.specs.Entries.{first_entry, has_entry};
 ghost use Rattle.ts_crl.specs.EntryView.{entry_in, entries_in};
@@ -27,14 +27,10 @@ use crate::values::{base_if_any, value_if_any};
 use crate::version::ListVersion;
 use ts_der::Integer;
 use ts_digest::Message;
-use ts_ext::{
-    AuthorityKeyIdentifier, CrlNumber, Ext, Extensions, Holder, IssuingDistributionPoint, Known,
-};
+use ts_ext::{AuthorityKeyIdentifier, CrlNumber, Ext, Holder, IssuingDistributionPoint, Known};
+use ts_extensions::Extensions;
 use ts_field::{AlgorithmIdentifier, Stamp, Time};
 use ts_name::Name;
-
-/// The greatest number of octets that a CRL may have in this profile.
-pub const MAX_CRL: usize = 4_194_304;
 
 /// A CRL as it lies in the source (RFC 5280 5.1).
 #[derive(Clone, Copy)]

@@ -1,5 +1,5 @@
-//! The ends of the serial numbers of a CRL's entries, in order: that no entry has a serial number is
-//! nearly always seen by a search among them, without a walk over the entries.
+//! The ends of the serial numbers of a CRL's entries, in order: that no entry has a serial number
+//! is nearly always seen by a search among them, without a walk over the entries.
 
 ghost use Rattle.std.specs.Prelude.{◌≡◌};
 ghost use Rattle.std.specs.List.Sorted.{IsSorted};

@@ -3,7 +3,7 @@
 ghost use Rattle.std.specs.Prelude.{◌≡◌, option_map};
 ghost use Rattle.ts_der.specs.Answer.{Answers};
 ghost use Rattle.ts_der.specs.View.{now};
-ghost use Rattle.ts_ext.specs.ExtensionView.{extensions_in};
+ghost use Rattle.ts_extensions.specs.ExtensionView.{extensions_in};
 ghost use Rattle.ts_crl.specs.EntryView.{entry_as, entry_in};
 ghost use Rattle.ts_crl.specs.Reading.{entry_of};
 
@@ -11,7 +11,8 @@ use crate::placed::{PlacedFault, next_extensions_if_any};
 use crate::values::value_if_any;
 use ts_der::tag::SEQUENCE;
 use ts_der::{Element, Fault, Integer};
-use ts_ext::{Ext, Extensions, Holder, InvalidityDate, Known, ReasonCode};
+use ts_ext::{Ext, Holder, InvalidityDate, Known, ReasonCode};
+use ts_extensions::Extensions;
 use ts_field::{Stamp, Time, next_integer, next_time};
 use ts_shape::{FromElement, tagged_as};
 

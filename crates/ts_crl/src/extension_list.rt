@@ -4,12 +4,12 @@ ghost use Rattle.std.specs.Prelude.{◌≡◌};
 ghost use Rattle.ts_der.specs.Answer.{Answers};
 ghost use Rattle.ts_der.specs.View.{now};
 ghost use Rattle.ts_shape.specs.Items.{some_of};
-ghost use Rattle.ts_ext.specs.Extension.{located_in};
-ghost use Rattle.ts_ext.specs.ExtensionView.{all_located_in};
+ghost use Rattle.ts_extensions.specs.Extension.{located_in};
+ghost use Rattle.ts_extensions.specs.ExtensionView.{all_located_in};
 ghost use Rattle.ts_crl.specs.EntryView.{located_items_in};
 
 use ts_der::{Element, Fault};
-use ts_ext::{Extension, Extensions};
+use ts_extensions::{Extension, Extensions};
 use ts_shape::SequenceOf;
 
 /// One extension or more. The language's borrow checker can't hand on a struct that holds

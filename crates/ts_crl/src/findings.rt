@@ -5,15 +5,16 @@ ghost use Rattle.std.specs.Option.{option_copied};
 ghost use Rattle.ts_shape.specs.Shape.{◌or_else◌};
 ghost use Rattle.ts_ext.specs.declared.known.Holder.TheVariants.{Entry as EntryHolder};
 ghost use Rattle.ts_ext.specs.declared.known.Known.TheVariants.{CertificateIssuer};
-ghost use Rattle.ts_ext.specs.ExtensionView.{located_as};
-ghost use Rattle.ts_ext.specs.ValueRules.{value_fault as value_fault_of};
+ghost use Rattle.ts_extensions.specs.ExtensionView.{located_as};
+ghost use Rattle.ts_extensions.specs.ValueRules.{value_fault as value_fault_of};
 ghost use Rattle.ts_crl.specs.EntryView.{extension_as};
 ghost use Rattle.ts_crl.specs.Findings.{findings_of};
 ghost use Rattle.ts_crl.specs.FindingsView.{findings_in};
 ghost use Rattle.ts_crl.specs.Profile.{unprocessed_in};
 ghost use Rattle.ts_crl.specs.Values.{is_known};
 
-use ts_ext::{Extension, Holder, Known};
+use ts_ext::{Holder, Known};
+use ts_extensions::Extension;
 use ts_shape::CertFault;
 
 /// What the rules of a CRL ask of the extensions of its entries (RFC 5280 4.2, 5.1.2.1, 5.3),

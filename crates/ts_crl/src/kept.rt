@@ -8,7 +8,7 @@ ghost use Rattle.ts_name.specs.NameView.{rdns_in};
 ghost use Rattle.ts_shape.specs.Fields.{optional_of};
 ghost use Rattle.ts_shape.specs.Items.{alone, of_tag, some_of};
 ghost use Rattle.ts_shape.specs.Steps.{Takes};
-ghost use Rattle.ts_ext.specs.Extension.{located_in};
+ghost use Rattle.ts_extensions.specs.Extension.{located_in};
 ghost use Rattle.ts_crl.specs.EntryView.{located_items_in, placed_in, revoked_in};
 ghost use Rattle.ts_crl.specs.inside.Kept.{EntriesRead, TbsRead, SignedRead, WasRead};
 ghost use Rattle.ts_crl.specs.ListView.{tbs_in, located_list_in};

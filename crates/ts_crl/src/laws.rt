@@ -15,7 +15,7 @@ ghost use Rattle.ts_crl.specs.List.{TbsCertList, CertificateList};
 ghost use Rattle.ts_crl.specs.Encoding.{IsTbsCertList, IsCertificateList};
 ghost use Rattle.ts_crl.specs.Entries.{entries_of};
 ghost use Rattle.ts_crl.specs.Profile.{scope_of};
-ghost use Rattle.ts_ext.specs.Stated.{IsStated};
+ghost use Rattle.ts_extensions.specs.Stated.{IsStated};
 ghost use Rattle.ts_crl.specs.Values.{is_known, list_extensions, entry_extensions_of, crl_number};
 ghost use Rattle.ts_crl.specs.Values.{base_number, key_of, reason_of, date_of};
 

@@ -75,7 +75,7 @@ mod update;
 mod values;
 mod version;
 
-pub use crl::{Crl, MAX_CRL};
+pub use crl::Crl;
 pub use entry::Entry;
 pub use fault::CrlFault;
 pub use numbers::is_lower_number;

@@ -1,7 +1,7 @@
 //! A CRL that is kept.
 
-ghost use Rattle.std.specs.Prelude.{◌≡◌, ◌⊎◌, ℕ, List, [], Some, None, Ok, Err, option_map, unwrap_or, IfErr};
-ghost use Rattle.std.specs.Prelude.{IsErrAnd};
+ghost use Rattle.std.specs.Prelude.{◌≡◌, ◌⊎◌, ℕ, List, [], Some, None, Ok, Err, option_map, IfErr};
+ghost use Rattle.std.specs.Prelude.{IsErrAnd, unwrap_or};
 ghost use Rattle.ts_crl.specs.Fault.{ListFault};
 ghost use Rattle.ts_crl.specs.Kept.{kept_text, unreadable_in, RefusedFor};
 ghost use Rattle.ts_crl.specs.inside.Kept.{first_place, WasRead};
@@ -165,8 +165,8 @@ fn with_endings<'a>(
     }
 }
 
-/// A borrowed CRL, with the hash of the octets that are signed in it, and with the ends of the serial
-/// numbers of its entries.
+/// A borrowed CRL, with the hash of the octets that are signed in it, and with the ends of the
+/// serial numbers of its entries.
 fn with_kept<'a>(crl: Crl<'a>, digest: &'a Digest, endings: &'a Endings) -> Crl<'a>
     requires digest { IsDigestOf digest.now (crl_in crl).tbs }
     requires endings { AreListed endings.now.sorted.items (entries_of (crl_in crl)) }

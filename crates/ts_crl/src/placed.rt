@@ -6,7 +6,7 @@ ghost use Rattle.ts_der.specs.View.{now};
 ghost use Rattle.ts_shape.specs.Fields.{optional_of};
 ghost use Rattle.ts_shape.specs.Items.{alone, of_tag, some_of};
 ghost use Rattle.ts_shape.specs.Steps.{Takes};
-ghost use Rattle.ts_ext.specs.Extension.{located_in};
+ghost use Rattle.ts_extensions.specs.Extension.{located_in};
 ghost use Rattle.ts_crl.specs.EntryView.{located_items_in, placed_in};
 ghost use Rattle.ts_crl.specs.Reading.{located_extensions_of, wrapped_extensions_of};
 

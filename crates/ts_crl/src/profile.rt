@@ -3,7 +3,7 @@
 ghost use Rattle.std.specs.Prelude.{◌≡◌, [], map, unwrap_or, option_map};
 ghost use Rattle.std.specs.List.{list_any};
 ghost use Rattle.std.specs.Option.{option_copied};
-ghost use Rattle.ts_ext.specs.Extension.{unlocated};
+ghost use Rattle.ts_extensions.specs.Extension.{unlocated};
 ghost use Rattle.ts_ext.specs.NameViews.{issuing_point_in};
 ghost use Rattle.ts_crl.specs.EntryView.{located_items_in, placed_in, revoked_in};
 ghost use Rattle.ts_crl.specs.Fault.{fault_in};

@@ -2,8 +2,8 @@
 
 ghost use Rattle.std.specs.Prelude.{◌≡◌, [], map, unwrap_or, option_map};
 ghost use Rattle.ts_ext.specs.declared.known.Holder.TheVariants.{List as ListHolder};
-ghost use Rattle.ts_ext.specs.ExtensionView.{located_as};
-ghost use Rattle.ts_ext.specs.ValueRules.{values_fault as values_fault_of};
+ghost use Rattle.ts_extensions.specs.ExtensionView.{located_as};
+ghost use Rattle.ts_extensions.specs.ValueRules.{values_fault as values_fault_of};
 ghost use Rattle.ts_crl.specs.EntryView.{located_items_in, placed_in, revoked_in};
 ghost use Rattle.ts_crl.specs.ListView.{located_list_in};
 ghost use Rattle.ts_crl.specs.Rules.{located_as_ruled, all_located_as_ruled};
@@ -21,7 +21,8 @@ use crate::placed::PlacedFault;
 use crate::revoked::RevokedEntries;
 use crate::values::with_number;
 use crate::version::ListVersion;
-use ts_ext::{Extension, Holder, Known};
+use ts_ext::{Holder, Known};
+use ts_extensions::Extension;
 use ts_shape::{CertFault, CertRule, first_repeated};
 
 /// An extension under the object identifier of the one whose rules its value keeps: a base number

@@ -5,12 +5,13 @@ ghost use Rattle.ts_der.specs.View.{now};
 ghost use Rattle.ts_crl.specs.ListView.{located_list_in};
 ghost use Rattle.ts_crl.specs.Reading.{crl_signed_of, crl_whole_of, shape_of};
 
-use crate::crl::{Crl, MAX_CRL};
+use crate::crl::Crl;
 use crate::tbs::read_tbs;
 use ts_der::tag::SEQUENCE;
 use ts_der::{DerFault, Element, Reader};
 use ts_digest::Message;
 use ts_field::{next_bits, read_algorithm};
+use ts_octets::MAX_CRL;
 use ts_shape::{CertFault, CertRule};
 
 /// The parts that a SEQUENCE holds.

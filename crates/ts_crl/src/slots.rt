@@ -4,7 +4,7 @@ ghost use Rattle.std.specs.List.{find};
 ghost use Rattle.std.specs.Prelude.{◌≡◌, option_map, IfOk};
 ghost use Rattle.ts_name.specs.NameView.{rdns_in};
 ghost use Rattle.ts_name.specs.Sameness.{is_same_name};
-ghost use Rattle.ts_ext.specs.ExtensionView.{extensions_in};
+ghost use Rattle.ts_extensions.specs.ExtensionView.{extensions_in};
 ghost use Rattle.ts_crl.specs.EntryView.{extension_as};
 ghost use Rattle.ts_crl.specs.ListView.{crl_in};
 ghost use Rattle.ts_crl.specs.Profile.{is_delta as is_delta_list};
@@ -16,7 +16,8 @@ ghost use Rattle.ts_crl.specs.Values.{is_known};
 use crate::crl::Crl;
 use crate::profile::is_delta;
 use std::alloc::{AllocError, Global};
-use ts_ext::{Extension, Extensions, Known};
+use ts_ext::Known;
+use ts_extensions::{Extension, Extensions};
 use ts_name::Name;
 
 /// Whether two names are the same.

@@ -2,10 +2,10 @@
 
 ghost use Rattle.std.specs.Prelude.{◌≡◌, [], map, unwrap_or, option_map};
 ghost use Rattle.std.specs.List.{find, list_any};
-ghost use Rattle.ts_ext.specs.Extension.{unlocated};
+ghost use Rattle.ts_extensions.specs.Extension.{unlocated};
 ghost use Rattle.ts_ext.specs.declared.known.Holder.TheVariants.{List as ListHolder};
 ghost use Rattle.ts_ext.specs.declared.known.Known.TheVariants.{DeltaCrlIndicator};
-ghost use Rattle.ts_ext.specs.ExtensionView.{located_as};
+ghost use Rattle.ts_extensions.specs.ExtensionView.{located_as};
 ghost use Rattle.ts_ext.specs.ExtView.{ext_in};
 ghost use Rattle.ts_ext.specs.Known.{known_at};
 ghost use Rattle.ts_crl.specs.EntryView.{extension_as, located_items_in, placed_in};
@@ -17,7 +17,8 @@ ghost use Rattle.ts_crl.specs.Values.{located_with_number};
 use crate::extension_list::ExtensionList;
 use crate::placed::PlacedFault;
 use ts_der::OidRef;
-use ts_ext::{Ext, Extension, Holder, Known};
+use ts_ext::{Ext, Holder, Known};
+use ts_extensions::Extension;
 
 /// The object identifier of cRLNumber (RFC 5280 5.2.3).
 const CRL_NUMBER: &[u8] = b"\x55\x1d\x14";

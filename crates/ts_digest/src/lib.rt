@@ -11,8 +11,8 @@
 //!   message or of three slices one after another (`specs/Hash`).
 //! - [`size_of_hash`]: how many octets a hash has.
 //! - [`Digest::of`], [`Message::of`], [`Message::with_digest`], [`Message::digest`],
-//!   [`Message::hash_by`]: octets that are signed, whose hash is computed once where they are checked
-//!   many times: what is answered is the hash of the octets in any case.
+//!   [`Message::hash_by`]: octets that are signed, whose hash is computed once where they are
+//!   checked many times: what is answered is the hash of the octets in any case.
 //! - [`append`]: the octets behind those of an array that has room for them.
 //!
 //! [`likely_hash`] names the function by which a signature algorithm is likely to hash. No promise

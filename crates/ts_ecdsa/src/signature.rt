@@ -68,9 +68,11 @@ pub fn is_ecdsa_signature(
     signature: &[u8],
 ) -> bool
     ensures exactly { IsTrue result
-        ↔ IsEcdsaSignature (curve_of curve) hash public_key.now signed.now.octets.now signature.now }
+        ↔ IsEcdsaSignature (curve_of curve) hash public_key.now signed.now.octets.now
+        signature.now }
     ensures test { result
-        ≡ is_ecdsa_signature_of (curve_of curve) hash public_key.now signed.now.octets.now signature.now }
+        ≡ is_ecdsa_signature_of (curve_of curve) hash public_key.now signed.now.octets.now
+        signature.now }
 {
     match curve {
         Curve::P256 => is_signature_on::<P256>(hash, public_key, signed, signature),

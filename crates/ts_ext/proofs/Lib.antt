@@ -10,15 +10,4 @@ pub mod KeyAndConstraints
 pub mod Lists
 pub mod Policies
 pub mod Exts
-pub mod ValueFaults
-pub mod ExtensionParts
-pub mod Unlocated
-pub mod ValidExtensions
-pub mod FastValues
-pub mod Walked
 pub mod OneEncoding
-pub mod UriPoints
-pub mod FastItems
-pub mod ValidLists
-pub mod OneExtension
-pub mod FastFind

@@ -14,8 +14,3 @@ pub mod Known
 pub mod Ext
 pub mod ExtView
 pub mod Rules
-pub mod Extension
-pub mod ExtensionView
-pub mod ValueRules
-pub mod Valid
-pub mod Stated

@@ -1,4 +1,4 @@
--- What contracts see of the names that extensions lend.
+-- What contracts see of the names that are borrowed from extensions.
 use Rattle.std.specs.Prelude.{List, option_map}
 use Rattle.ts_der.specs.Element.{inside}
 use Rattle.ts_der.specs.View.{now}
@@ -12,12 +12,12 @@ use Rattle.ts_name.specs.General.{GeneralName, general_of}
 use Rattle.ts_name.specs.Subtree.{GeneralSubtree, subtree_of}
 use Rattle.ts_ext.specs.declared.distribution_point.PointName as point
 use Rattle.ts_ext.specs.declared.distribution_point.PointName.TheVariants.{FullName, RelativeName}
-use Rattle.ts_ext.specs.declared.distribution_point.DistributionPoint as lent_point
-use Rattle.ts_ext.specs.declared.issuing_distribution_point.IssuingDistributionPoint as lent_scope
-use Rattle.ts_ext.specs.declared.authority_key_identifier.AuthorityKeyIdentifier as lent_key
-use Rattle.ts_ext.specs.declared.name_constraints.NameConstraints as lent_constraints
-use Rattle.ts_ext.specs.declared.alternative_names.AlternativeNames as lent_names
-use Rattle.ts_ext.specs.declared.distribution_points.DistributionPoints as lent_points
+use Rattle.ts_ext.specs.declared.distribution_point.DistributionPoint as borrowed_point
+use Rattle.ts_ext.specs.declared.issuing_distribution_point.IssuingDistributionPoint as scope
+use Rattle.ts_ext.specs.declared.authority_key_identifier.AuthorityKeyIdentifier as borrowed_key
+use Rattle.ts_ext.specs.declared.name_constraints.NameConstraints as borrowed_constraints
+use Rattle.ts_ext.specs.declared.alternative_names.AlternativeNames as borrowed_names
+use Rattle.ts_ext.specs.declared.distribution_points.DistributionPoints as borrowed_points
 use Rattle.ts_ext.specs.Points.{PointName, fullName, nameRelativeToCRLIssuer, Point, ListScope}
 use Rattle.ts_ext.specs.Points.{point_item}
 use Rattle.ts_ext.specs.AuthorityKey.{AuthorityKey}
@@ -37,7 +37,7 @@ point_name_in (FullName names) = fullName (names_in names)
 point_name_in (RelativeName rdn) = nameRelativeToCRLIssuer (attributes_in rdn)
 
 -- a distribution point
-abbrev pub point_in : lent_point.DistributionPoint → Point
+abbrev pub point_in : borrowed_point.DistributionPoint → Point
 point_in p =
     record {
       distributionPoint = option_map point_name_in p.name;
@@ -46,7 +46,7 @@ point_in p =
     }
 
 -- what a list covers
-abbrev pub issuing_point_in : lent_scope.IssuingDistributionPoint → ListScope
+abbrev pub issuing_point_in : scope.IssuingDistributionPoint → ListScope
 issuing_point_in p =
     record {
       distributionPoint = option_map point_name_in p.name;
@@ -58,7 +58,7 @@ issuing_point_in p =
     }
 
 -- the key of an authority
-abbrev pub authority_key_in : lent_key.AuthorityKeyIdentifier → AuthorityKey
+abbrev pub authority_key_in : borrowed_key.AuthorityKeyIdentifier → AuthorityKey
 authority_key_in a =
     record {
       keyIdentifier = option_map (λ k. k.now) a.key_identifier;
@@ -67,7 +67,7 @@ authority_key_in a =
     }
 
 -- name constraints
-abbrev pub name_constraints_in : lent_constraints.NameConstraints → Constraints
+abbrev pub name_constraints_in : borrowed_constraints.NameConstraints → Constraints
 name_constraints_in n =
     record {
       permittedSubtrees = option_map subtrees_in n.permitted;
@@ -75,9 +75,9 @@ name_constraints_in n =
     }
 
 -- names of a subject or an issuer
-abbrev pub alternatives_in : lent_names.AlternativeNames → List GeneralName
+abbrev pub alternatives_in : borrowed_names.AlternativeNames → List GeneralName
 alternatives_in a = names_in a.list
 
 -- distribution points
-abbrev pub points_in : lent_points.DistributionPoints → List Point
+abbrev pub points_in : borrowed_points.DistributionPoints → List Point
 points_in p = items_at point_item (inside (now p.list.element))

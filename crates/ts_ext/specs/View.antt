@@ -1,4 +1,4 @@
--- What contracts see of the parts of extensions that readers lend: octets, without where they lie
+-- What contracts see of the parts of extensions that are borrowed: octets, without where they lie
 -- in memory.
 use Rattle.std.specs.Prelude.{ℕ, List, option_map}
 use Rattle.ts_der.specs.Element.{inside}

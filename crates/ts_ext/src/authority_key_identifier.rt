@@ -13,10 +13,9 @@ ghost use Rattle.ts_ext.specs.AuthorityKey.{content_octets_of, serial_of, author
 ghost use Rattle.ts_ext.specs.AuthorityKey.{authority_key_fields, IsAuthorityKey, AuthorityKey};
 
 use crate::fields::next_names_if_any;
+use crate::tag::KEY_IDENTIFIER;
 use ts_der::{Element, Fault, Integer, Reader};
 use ts_name::GeneralNames;
-
-pub(crate) const KEY_IDENTIFIER: u8 = 0x80;
 
 const AUTHORITY_CERT_ISSUER: u8 = 0xA1;
 

@@ -14,18 +14,15 @@ ghost use Rattle.ts_ext.specs.Points.{IsPoint, Point};
 
 use crate::fields::{next_flags_if_any, next_names_if_any};
 use crate::reason_flags::ReasonFlags;
+use crate::tag::{FULL_NAME, POINT_NAME};
 use ts_der::tag::SEQUENCE;
 use ts_der::{DerFault, Element, Fault, Reader};
 use ts_name::{GeneralNames, Rdn};
 use ts_shape::{FromElement, SequenceOf, tagged_as};
 
-pub(crate) const POINT_NAME: u8 = 0xA0;
-
 const REASONS: u8 = 0x81;
 
 const CRL_ISSUER: u8 = 0xA2;
-
-pub(crate) const FULL_NAME: u8 = 0xA0;
 
 const RELATIVE_NAME: u8 = 0xA1;
 

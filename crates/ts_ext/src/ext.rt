@@ -55,47 +55,13 @@ pub enum Ext<'a> {
     Unknown(&'a [u8]),
 }
 
-/// The value of an extension that an element's content is.
-pub(crate) fn read_content<'a>(known: Known, element: Element<'a>) -> Result<Ext<'a>, Fault>
-    ensures { Answers ext_in result (content_of known (now element.entry)) }
-{
-    Ok(match known {
-        Known::SubjectKeyIdentifier => Ext::SubjectKeyIdentifier(element.content),
-        Known::KeyUsage => Ext::KeyUsage(KeyUsage::read(element)?),
-        Known::SubjectAltName => Ext::SubjectAltName(AlternativeNames::read(element)?),
-        Known::IssuerAltName => Ext::IssuerAltName(AlternativeNames::read(element)?),
-        Known::BasicConstraints => Ext::BasicConstraints(BasicConstraints::read(element)?),
-        Known::CrlNumber => Ext::CrlNumber(CrlNumber::read(element)?),
-        Known::ReasonCode => Ext::ReasonCode(ReasonCode::read(element)?),
-        Known::InvalidityDate => Ext::InvalidityDate(InvalidityDate::read(element)?),
-        Known::DeltaCrlIndicator => Ext::DeltaCrlIndicator(BaseCrlNumber::read(element)?),
-        Known::IssuingDistributionPoint => Ext::IssuingDistributionPoint(
-            IssuingDistributionPoint::read(element)?,
-        ),
-        Known::CertificateIssuer => Ext::CertificateIssuer(AlternativeNames::read(element)?),
-        Known::NameConstraints => Ext::NameConstraints(NameConstraints::read(element)?),
-        Known::CrlDistributionPoints => Ext::CrlDistributionPoints(DistributionPoints::read(
-            element,
-        )?),
-        Known::CertificatePolicies => Ext::CertificatePolicies(CertificatePolicies::read(element)?),
-        Known::PolicyMappings => Ext::PolicyMappings(PolicyMappings::read(element)?),
-        Known::AuthorityKeyIdentifier => Ext::AuthorityKeyIdentifier(AuthorityKeyIdentifier::read(
-            element,
-        )?),
-        Known::PolicyConstraints => Ext::PolicyConstraints(PolicyConstraints::read(element)?),
-        Known::ExtendedKeyUsage => Ext::ExtendedKeyUsage(ExtendedKeyUsage::read(element)?),
-        Known::FreshestCrl => Ext::FreshestCrl(DistributionPoints::read(element)?),
-        Known::InhibitAnyPolicy => Ext::InhibitAnyPolicy(SkipCerts::read(element)?),
-    })
-}
-
 /// The value of an extension that an element of its tag is.
 #[tactic(auto, unfolding(ts_shape::specs::Items::of_tag))]
 #[inline(always)]
 fn read_value<'a>(known: Known, element: Element<'a>) -> Result<Ext<'a>, Fault>
     ensures { Answers ext_in result (value_of known (now element.entry)) }
 {
-    read_content(known, tagged_as(element, known.tag())?)
+    Ext::read_content(known, tagged_as(element, known.tag())?)
 }
 
 /// The one value within an OCTET STRING.
@@ -132,6 +98,46 @@ impl<'a> Ext<'a> {
             (ext_of (known_at holder oid.entry.content.now) (now octets.entry)) }
     {
         read_ext(holder, oid, octets)
+    }
+
+    /// The value of an extension that an element's content is. Its tag is not looked at.
+    ///
+    /// # Errors
+    ///
+    /// The first rule of its reader that is broken, with its place.
+    pub fn read_content(known: Known, element: Element<'a>) -> Result<Ext<'a>, Fault>
+        ensures { Answers ext_in result (content_of known (now element.entry)) }
+    {
+        Ok(match known {
+            Known::SubjectKeyIdentifier => Ext::SubjectKeyIdentifier(element.content),
+            Known::KeyUsage => Ext::KeyUsage(KeyUsage::read(element)?),
+            Known::SubjectAltName => Ext::SubjectAltName(AlternativeNames::read(element)?),
+            Known::IssuerAltName => Ext::IssuerAltName(AlternativeNames::read(element)?),
+            Known::BasicConstraints => Ext::BasicConstraints(BasicConstraints::read(element)?),
+            Known::CrlNumber => Ext::CrlNumber(CrlNumber::read(element)?),
+            Known::ReasonCode => Ext::ReasonCode(ReasonCode::read(element)?),
+            Known::InvalidityDate => Ext::InvalidityDate(InvalidityDate::read(element)?),
+            Known::DeltaCrlIndicator => Ext::DeltaCrlIndicator(BaseCrlNumber::read(element)?),
+            Known::IssuingDistributionPoint => Ext::IssuingDistributionPoint(
+                IssuingDistributionPoint::read(element)?,
+            ),
+            Known::CertificateIssuer => Ext::CertificateIssuer(AlternativeNames::read(element)?),
+            Known::NameConstraints => Ext::NameConstraints(NameConstraints::read(element)?),
+            Known::CrlDistributionPoints => Ext::CrlDistributionPoints(DistributionPoints::read(
+                element,
+            )?),
+            Known::CertificatePolicies => Ext::CertificatePolicies(CertificatePolicies::read(
+                element,
+            )?),
+            Known::PolicyMappings => Ext::PolicyMappings(PolicyMappings::read(element)?),
+            Known::AuthorityKeyIdentifier => Ext::AuthorityKeyIdentifier(
+                AuthorityKeyIdentifier::read(element)?,
+            ),
+            Known::PolicyConstraints => Ext::PolicyConstraints(PolicyConstraints::read(element)?),
+            Known::ExtendedKeyUsage => Ext::ExtendedKeyUsage(ExtendedKeyUsage::read(element)?),
+            Known::FreshestCrl => Ext::FreshestCrl(DistributionPoints::read(element)?),
+            Known::InhibitAnyPolicy => Ext::InhibitAnyPolicy(SkipCerts::read(element)?),
+        })
     }
 }
 

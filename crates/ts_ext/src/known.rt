@@ -112,7 +112,7 @@ impl Known {
 
     /// The extension that has this arc in a holder, if it is one that is read there.
     #[inline(always)]
-    pub(crate) fn with_arc(holder: Holder, arc: u8) -> Option<Known>
+    pub fn with_arc(holder: Holder, arc: u8) -> Option<Known>
         ensures { result ≡ extension_of holder arc }
     {
         match holder {

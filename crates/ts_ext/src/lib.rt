@@ -1,14 +1,12 @@
 //! The values of the extensions of certificates, CRLs and CRL entries (RFC 5280 4.2, 5.2, 5.3),
 //! read in place, without allocation or copy. Octets that are no such value are refused by the
 //! first rule that they break, with its place. A reader is handed the value's element and does not
-//! look at its tag.
+//! look at its tag. Lists of extensions are `ts_extensions`.
 //!
 //! ```text
-//! for extension in extensions.iter() {
-//!     match Ext::read(extension.id, Holder::Certificate, extension.value)? {
-//!         Ext::BasicConstraints(constraints) => ..,
-//!         _ => ..,
-//!     }
+//! match Ext::read(Holder::Certificate, extension.id, extension.value)? {
+//!     Ext::BasicConstraints(constraints) => ..,
+//!     _ => ..,
 //! }
 //! ```
 //!
@@ -18,10 +16,9 @@
 //! `BasicConstraints`, `CertificatePolicies`, `CrlNumber`, `DistributionPoint`,
 //! `DistributionPoints` (cRLDistributionPoints, freshestCRL), `ExtendedKeyUsage`, `InvalidityDate`,
 //! `IssuingDistributionPoint`, `KeyUsage`, `NameConstraints`, `PolicyConstraints`,
-//! `PolicyMappings`, `ReasonCode`, `ReasonFlags`, `SkipCerts` (inhibitAnyPolicy), and `Extensions`,
-//! the list itself, whatever the values say. `Ext::read` reads the value of an extension by its
-//! object identifier and what holds it: a certificate, a CRL or an entry of a CRL. `specs/` stands
-//! beside RFC 5280 sections 4.2, 5.2 and 5.3.
+//! `PolicyMappings`, `ReasonCode`, `ReasonFlags`, `SkipCerts` (inhibitAnyPolicy). `Ext::read` reads
+//! the value of an extension by its object identifier and what holds it: a certificate, a CRL or an
+//! entry of a CRL. `specs/` stands beside RFC 5280 sections 4.2, 5.2 and 5.3.
 //!
 //! - `read` of each type: the octets encode the value that is given (`found`); a value that the
 //!   octets encode is the one that is given (`only`); a refusal is the first rule that is broken,
@@ -39,39 +36,23 @@
 //!   of a number if it has one.
 //! - `Known::at`: the extension that an object identifier names in a holder, if one is read there:
 //!   fourteen in a certificate, six in a CRL, three in an entry.
-//! - `Known::arc`: the last arc of its object identifier.
+//! - `Known::with_arc`: the same by the last arc, under 2.5.29.
+//! - `Known::arc`, `tag`: the last arc of its object identifier; the tag of its value.
 //! - `Ext::read`: within the OCTET STRING stands the one element that encodes the value of that
 //!   extension; of an extension that is not read there the octets are kept (`found`, `only`); a
 //!   refusal is the first rule of the table that the value breaks, with its place, `Trailing` last,
 //!   and comes exactly then; what the reading function gives (`fault`, `exact`).
+//! - `Ext::read_content`: the value that an element's content is, whatever its tag: what the
+//!   reading function gives.
 //! - `Ext::broken_rule`: the first of `SubtreeBounds` (a subtree of name constraints with a minimum
 //!   or a maximum), `AddressLength` (an IP address of other than 4 or 16 octets, in a constraint 8
 //!   or 32) and `DuplicatePolicy` (a policy that is stated twice) that the value breaks, if it
 //!   breaks one.
-//! - `Extension::first_fault`: the first rule that the value of an extension breaks: the first of
-//!   `Ext::read`, else that of `Ext::broken_rule`, whose place is the extension in a certificate
-//!   and 0 elsewhere.
-//! - `CheckedExtensions::read_explicit`: as `Extensions::read`, of the one list within an explicit
-//!   tag (`found`, `only`, `fault`); `DuplicateExtension` at the first extension that occurs twice,
-//!   else the first rule that the values break (`judged`).
-//! - `are_sound_extensions`: true exactly where the content of a SEQUENCE is extensions of a
-//!   certificate of which none occurs twice, each with a value that breaks no rule (its clause
-//!   (`AreValidOnce`)).
-//! - `Extensions::read`, `CheckedExtensions::read_explicit`: the extensions are those of the
-//!   reading function that keeps the place of each (`placed`).
-//! - `Extensions::within`: the list of a SEQUENCE that was read before, which is not read again.
-//! - `Extensions::first_repeated`: the first extension, by its place, with the object identifier of
-//!   an earlier one.
-//! - `Extensions::find`: the first extension, by its place, with the object identifier of a known
-//!   one.
-//! - `Extensions::broken_rule`: the first rule that the values break, one extension after another,
-//!   each by `Extension::first_fault` (`fault`); none exactly where each value is encoded as its
-//!   extension asks and breaks none of the other rules (`sound`).
 //! - law (`laws`): no two contents encode one value of an extension, and no content encodes two
 //!   (`one_value`: `one_encoding`, `one_record`).
-//! - `AlternativeNames::iter`, `DistributionPoints::iter`, `Extensions::iter`,
-//!   `CertificatePolicies::iter`, `PolicyMappings::iter`, `ExtendedKeyUsage::iter`: the items that
-//!   were read, in their order (their clauses, `next_gives`).
+//! - `AlternativeNames::iter`, `DistributionPoints::iter`, `CertificatePolicies::iter`,
+//!   `PolicyMappings::iter`, `ExtendedKeyUsage::iter`: the items that were read, in their order
+//!   (their clauses, `next_gives`).
 //!
 //! # Not promised
 //!
@@ -84,20 +65,11 @@ mod alternative_names;
 mod authority_key_identifier;
 mod basic_constraints;
 mod certificate_policies;
-mod checked_extensions;
-mod checks;
 mod crl_number;
 mod distribution_point;
 mod distribution_points;
 mod ext;
 mod extended_key_usage;
-mod extension;
-mod extensions;
-mod fast;
-mod fast_extension;
-mod fast_find;
-mod fast_list;
-mod fast_points;
 mod fields;
 mod invalidity_date;
 mod issuing_distribution_point;
@@ -117,20 +89,17 @@ mod reason_flags;
 mod reason_set;
 mod rules;
 mod skip_certs;
+pub mod tag;
 
 pub use alternative_names::AlternativeNames;
 pub use authority_key_identifier::AuthorityKeyIdentifier;
 pub use basic_constraints::BasicConstraints;
 pub use certificate_policies::CertificatePolicies;
-pub use checked_extensions::CheckedExtensions;
 pub use crl_number::{BaseCrlNumber, CrlNumber};
 pub use distribution_point::{DistributionPoint, PointName};
 pub use distribution_points::DistributionPoints;
 pub use ext::Ext;
 pub use extended_key_usage::ExtendedKeyUsage;
-pub use extension::Extension;
-pub use extensions::Extensions;
-pub use fast_list::are_sound_extensions;
 pub use invalidity_date::InvalidityDate;
 pub use issuing_distribution_point::IssuingDistributionPoint;
 pub use key_usage::KeyUsage;

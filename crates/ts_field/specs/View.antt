@@ -1,5 +1,5 @@
--- What contracts see of an algorithm identifier that is lent and of a time that is kept (RFC 5280
--- 4.1.1.2, 4.1.2.5): octets, without where they lie in memory.
+-- What contracts see of an algorithm identifier that is borrowed and of a time that is kept (RFC
+-- 5280 4.1.1.2, 4.1.2.5): octets, without where they lie in memory.
 use Rattle.std.specs.Option.{option_copied}
 use Rattle.ts_field.specs.declared.algorithm.AlgorithmIdentifier.{AlgorithmIdentifier}
 use Rattle.ts_field.specs.declared.time.Time.{Time}

@@ -13,10 +13,10 @@ use Rattle.ts_store.specs.Anchors.{add_unless, new_anchor, new_refusal, refuse_i
 use Rattle.ts_store.specs.Lists.{stored_crl, list_in, is_newer, has_slot, has_id, replace_slot, put_by, put_list, place_by, drop_at}
 use Rattle.ts_store.specs.Tables.{Tables, change as change_by, with_anchors, with_complete, with_deltas, load_as, drop_either}
 use Rattle.ts_store.specs.declared.anchor.TrustAnchor.{TrustAnchor}
-use Rattle.ts_store.specs.declared.command.Command.{Command}
-use Rattle.ts_store.specs.declared.command.Command.TheVariants.{DropCrl}
-use Rattle.ts_store.specs.declared.outcome.Refusal.{Refusal}
-use Rattle.ts_store.specs.declared.outcome.Refusal.TheVariants.{Malformed, OlderCrl, StoreFull, NoCrl}
+use Rattle.ts_command.specs.declared.command.Command.{Command}
+use Rattle.ts_command.specs.declared.command.Command.TheVariants.{DropCrl}
+use Rattle.ts_command.specs.declared.outcome.Refusal.{Refusal}
+use Rattle.ts_command.specs.declared.outcome.Refusal.TheVariants.{Malformed, OlderCrl, StoreFull, NoCrl}
 use Rattle.ts_store.specs.declared.stored.StoredCrl.{StoredCrl}
 use Rattle.ts_history.specs.Contents.{Contents, contents_of}
 use Rattle.ts_history.specs.inside.Places.{crl_change_at, crl_change_in, crl_removal_at, crl_removal_in}

@@ -4,15 +4,15 @@ use Rattle.std.specs.Prelude.{nat_le}
 use Rattle.std.proofs.lemmas.Bool.{leb-true, leb-false}
 use Rattle.std.proofs.lemmas.List.{take-append-le, take_all}
 use Rattle.std.proofs.Math.Seq.{take-length}
-use Rattle.ts_store.specs.Commands.{id_of}
+use Rattle.ts_command.specs.Commands.{id_of}
 use Rattle.ts_store.specs.Ids.{first_of}
 use Rattle.ts_store.specs.Store.{StoreState, Step, step, step_by, make, after, store_after, empty}
 use Rattle.ts_store.specs.Tables.{Tables, change}
-use Rattle.ts_store.specs.declared.command.Command.{Command}
+use Rattle.ts_command.specs.declared.command.Command.{Command}
 use Rattle.ts_store.specs.declared.ids.FirstCommand.{FirstCommand}
-use Rattle.ts_store.specs.declared.outcome.Outcome.{Outcome}
-use Rattle.ts_store.specs.declared.outcome.Outcome.TheVariants.{Applied, Repeated, Refused}
-use Rattle.ts_store.specs.declared.outcome.Refusal.{Refusal}
+use Rattle.ts_command.specs.declared.outcome.Outcome.{Outcome}
+use Rattle.ts_command.specs.declared.outcome.Outcome.TheVariants.{Applied, Repeated, Refused}
+use Rattle.ts_command.specs.declared.outcome.Refusal.{Refusal}
 use Rattle.ts_store.proofs.Steps.{unchanged, taken, joined}
 use Rattle.ts_history.specs.Contents.{Contents, no_contents, contents_of}
 use Rattle.ts_history.specs.inside.History.{IsHistory, change_if, commands_in, replay}

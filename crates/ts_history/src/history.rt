@@ -11,7 +11,8 @@ use crate::snapshot::Snapshot;
 use crate::taken::{TableChange, TakenCommand, taken_of};
 use std::alloc::{AllocError, Global};
 use std::marker::Model;
-use ts_store::{Command, FirstCommand, Outcome, Store, Tables};
+use ts_command::{Command, Outcome};
+use ts_store::{FirstCommand, Store, Tables};
 
 /// The commands that a store took, what each changed, and the store after them. Contracts see the
 /// list of the commands.
@@ -24,7 +25,7 @@ pub struct History {
 
 impl Model for History {
     ghost use Rattle.std.specs.Prelude.{List};
-    ghost use Rattle.ts_store.specs.declared.command.Command.{Command as Stated};
+    ghost use Rattle.ts_command.specs.declared.command.Command.{Command as Stated};
     ghost use Rattle.ts_history.specs.inside.History.{IsHistory, commands_in};
 
     ghost Value = { List Stated };

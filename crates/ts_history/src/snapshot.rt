@@ -10,7 +10,8 @@ use crate::taken::{KeptCommand, Kind, TableChange, TakenCommand};
 use std::alloc::{AllocError, Global};
 use std::marker::Model;
 use ts_cert::OwnedCert;
-use ts_store::{Command, Purposes, StoredCrl, Tables, TrustAnchor};
+use ts_command::{Command, Purposes};
+use ts_store::{StoredCrl, Tables, TrustAnchor};
 
 /// A borrowed trust anchor: the SHA-256 of its certificate, the certificate, and its purposes.
 #[derive(Clone, Copy)]

@@ -2,7 +2,7 @@
 
 ghost use Rattle.std.specs.Prelude.{◌≡◌, Ok, IfOk};
 ghost use Rattle.ts_store.specs.Tables.{Tables as Stated, change as change_by};
-ghost use Rattle.ts_store.specs.declared.command.Command.TheVariants.{AddAnchor, LoadCrl};
+ghost use Rattle.ts_command.specs.declared.command.Command.TheVariants.{AddAnchor, LoadCrl};
 ghost use Rattle.ts_history.specs.Contents.{contents_of};
 ghost use Rattle.ts_history.specs.inside.Taken.{command_in, apply_change};
 ghost use Rattle.ts_history.specs.declared.taken.KeptCommand.TheVariants.{Other};
@@ -10,10 +10,9 @@ ghost use Rattle.ts_history.specs.declared.taken.KeptCommand.TheVariants.{Other}
 use crate::placing::{crl_change, crl_removal, removal, setting};
 use std::alloc::{AllocError, Global};
 use ts_cert::{OwnedCert, OwnedCertFault};
+use ts_command::{CertificateOctets, Command, CrlOctets, Purposes};
 use ts_crl::{OwnedCrl, OwnedCrlFault};
-use ts_store::{
-    CertificateOctets, Command, CrlOctets, Purposes, StoredCrl, Tables, TrustAnchor, digest,
-};
+use ts_store::{StoredCrl, Tables, TrustAnchor, digest};
 
 /// A command, kept so that the anchor or CRL that it loads can be borrowed, in the form in which it
 /// was read.

@@ -5,12 +5,12 @@ ghost use Rattle.ts_lab.specs.inside.Member.{InputIsFit};
 use crate::commands::{certificate, digest_of};
 use crate::member::{NodeInput, NodeReply};
 use crate::node_line::AskedLine;
-use crate::text::{found_text, not_yet_text, reply_text};
 use std::alloc::{AllocError, Global};
 use ts_node::{Input, Reply};
 use ts_question::{Flags, OctetStrings, Oids, Question, Reply as Words, Terms};
 use ts_script::words::{SPACE, first_piece};
 use ts_script::{LineFault, Options, Symbols};
+use ts_show::{found_text, not_yet_text, reply_text};
 use ts_time::Moment;
 
 /// The first word of the answer to a question.

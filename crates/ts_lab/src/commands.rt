@@ -3,9 +3,9 @@
 use crate::node_line::WantedLine;
 use sha2::{Digest, Sha256};
 use std::alloc::Global;
+use ts_command::{Command, Purposes};
 use ts_octets::Octets;
 use ts_script::{LineFault, Symbols};
-use ts_store::{Command, Purposes};
 
 /// The id of a command: 15 octets of 0, and this one.
 pub(crate) fn id_of(last: u8) -> [u8; 16] {

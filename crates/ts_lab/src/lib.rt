@@ -9,7 +9,6 @@
 //! - [`lab()`]: `text`: where the reader tells its octets, what is written is what the script says,
 //!   line by line, up to its first wrong line (`specs/Lab`, `specs/Script`, `specs/Says`); `bound`.
 //! - [`laws::one_word`]: a line that makes something is answered, or refused with one word.
-//! - [`text`]: the words for outcomes, replies and faults.
 //!
 //! What the lines about nodes print, no clause says: examples show it (`node_tests.rt` of
 //! `test_lab`). That each run of them ends, is safe, changes nothing that is known by name, and
@@ -31,7 +30,6 @@ mod scanner;
 mod sent;
 mod show;
 mod stream;
-pub mod text;
 mod trouble;
 
 pub use stream::{READ_LIMIT, lab};

@@ -6,13 +6,13 @@ ghost use Rattle.ts_lab.specs.inside.Member.{InputIsFit};
 use std::alloc::Global;
 use std::marker::Model;
 use ts_answer::Answers;
+use ts_command::{Command, Outcome};
 use ts_disk::MemDisk;
 use ts_node::{Input, Node, Output, Reply};
 use ts_question::{Answer, Question};
 use ts_record::Record;
 use ts_script::LineFault;
 use ts_sig::DigestCheck;
-use ts_store::{Command, Outcome};
 use ts_synod::NodeFault;
 
 pub(crate) type NodeInput = Input<Command, Question>;

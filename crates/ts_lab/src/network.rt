@@ -7,9 +7,9 @@ use crate::member::{Member, NodeInput, NodeReply};
 use crate::sent::SentMessage;
 use crate::trouble::Trouble;
 use std::alloc::{AllocError, Global};
+use ts_command::{Command, Outcome};
 use ts_node::{Input, Reply};
 use ts_script::LineFault;
-use ts_store::{Command, Outcome};
 use ts_synod::Message;
 
 /// The most nodes.

@@ -9,7 +9,6 @@ use crate::member::NodeReply;
 use crate::network::Network;
 use crate::node_line::{AskedLine, NodeLine, WantedLine};
 use crate::show::show;
-use crate::text::{fault_name, outcome_text};
 use crate::trouble::Trouble;
 use std::alloc::Global;
 use ts_literal::number_of_octets;
@@ -17,6 +16,7 @@ use ts_node::{Input, Reply};
 use ts_record::Progress;
 use ts_script::words::{SPACE, first_piece};
 use ts_script::{LineFault, Options, Symbols};
+use ts_show::fault_name;
 use ts_time::Moment;
 
 /// Answers a line about nodes, which there may not be yet.
@@ -114,7 +114,6 @@ fn submit(
             Ok(format!(in alloc; "submit {node} started {position} {ballot}\n")?)
         }
         Reply::Settled { position, outcome } => {
-            let outcome = outcome_text(alloc, outcome)?;
             Ok(format!(in alloc; "submit {node} settled {position} {outcome}\n")?)
         }
         _ => Ok(String::new(alloc)),
@@ -141,7 +140,6 @@ fn outcome(alloc: Global, network: &mut Network, node: u32, id: u8) -> Result<St
     let Some((position, outcome)) = network.settled(place, id)? else {
         return Ok(String::from_str(alloc, "outcome none\n")?);
     };
-    let outcome = outcome_text(alloc, outcome)?;
     Ok(format!(in alloc; "outcome {position} {outcome}\n")?)
 }
 

@@ -5,8 +5,8 @@ ghost use Rattle.ts_lab.specs.inside.Member.{InputIsFit};
 use crate::member::NodeInput;
 use std::marker::Model;
 use ts_answer::is_deliverable;
+use ts_command::Command;
 use ts_node::Input;
-use ts_store::Command;
 use ts_synod::Message;
 
 /// A message that a node may be sent.

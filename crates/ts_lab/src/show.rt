@@ -1,9 +1,9 @@
 //! What a `show` line is answered.
 
 use crate::network::Network;
-use crate::text::fault_name;
 use crate::trouble::Trouble;
 use std::alloc::{AllocError, Global};
+use ts_show::fault_name;
 use ts_synod::NodeFault;
 
 /// For each node how many commands it knows without a gap, and the ids of them, where they were

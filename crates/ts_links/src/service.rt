@@ -4,17 +4,17 @@ ghost use Rattle.std.specs.Prelude.{◌≡◌, List, true};
 ghost use Rattle.ts_question.specs.Question.{StoreQuestion};
 ghost use Rattle.ts_node.specs.Machine.{store_of};
 ghost use Rattle.ts_node.specs.Ahead.{IsAhead};
-ghost use Rattle.ts_store.specs.Octets.{octets_of};
+ghost use Rattle.ts_command.specs.Octets.{octets_of};
 ghost use Rattle.ts_wire.specs.Frames.{FrameFits};
 ghost use Rattle.ts_wire.specs.declared.frame.Frame.{Frame as Request};
 ghost use Rattle.ts_serve.specs.Answering.{AnswersFrame};
 ghost use Rattle.ts_serve.specs.Turn.{HasKept, IsSettled, StagedTurn};
 
+use ts_command::{Command, Outcome};
 use ts_disk::Disk;
 use ts_node::Machine;
 use ts_question::{Answer, Question};
 use ts_serve::{AnswerFault, Server};
-use ts_store::{Command, Outcome};
 use ts_wire::Frame;
 
 /// What takes requests one after another, and answers each.

@@ -71,11 +71,11 @@ module _ (from : ℕ) (anchors : List TrustAnchor) (complete deltas : List Store
       (drop (from - length all_anchors - length all_complete) all_deltas))) f1
       ∙ sym three
 
--- ---- items that are lent
+-- ---- items that are borrowed
 
 -- those of a page
-lent : {A B : Type 0} (g : A → B) (some all : List A) (items : List B) (m f : ℕ) → some ≡ take m (drop f all) → map g all ≡ items → map g some ≡ take m (drop f items)
-lent g some all items m f is same = ap (map g) is ∙ rows_are g m f all ∙ ap (λ l. take m (drop f l)) same
+borrowed : {A B : Type 0} (g : A → B) (some all : List A) (items : List B) (m f : ℕ) → some ≡ take m (drop f all) → map g all ≡ items → map g some ≡ take m (drop f items)
+borrowed g some all items m f is same = ap (map g) is ∙ rows_are g m f all ∙ ap (λ l. take m (drop f l)) same
 
 counted : {A B : Type 0} (g : A → B) (all : List A) (items : List B) → map g all ≡ items → length all ≡ length items
 counted g all items same = sym (length-map all g) ∙ ap length same
@@ -83,7 +83,7 @@ counted g all items same = sym (length-map all g) ∙ ap length same
 abbrev list_in : Bor StoredCrl → StoredCrl
 list_in c = c.now
 
--- what the tables lend, and the windows of it that are written one after another
+-- what is borrowed from the tables, and the windows of it that are written one after another
 pub record IsWritten (contents : Contents) (from total : ℕ) (rows : List (List ℕ)) : Type 0 where
   pub anchors : List BorrowedAnchor
   pub complete : List (Bor StoredCrl)
@@ -110,13 +110,13 @@ module _ (contents : Contents) (from total : ℕ) (rows : List (List ℕ)) (w : 
       let a = counted anchor_in w.anchors contents.anchors w.anchors_are in
       let b = counted list_in w.complete contents.complete w.complete_are in
       whole from contents.anchors contents.complete contents.deltas w.row1 w.row2 rows
-      (w.is1 ∙ ap anchor_rows (lent anchor_in w.first_anchors w.anchors contents.anchors 64 from w.first1 w.anchors_are))
+      (w.is1 ∙ ap anchor_rows (borrowed anchor_in w.first_anchors w.anchors contents.anchors 64 from w.first1 w.anchors_are))
       (w.is2 ∙ ap (λ l. w.row1 ++ crl_rows l)
-      (lent list_in w.first_complete w.complete contents.complete (64 - length w.row1)
+      (borrowed list_in w.first_complete w.complete contents.complete (64 - length w.row1)
       (from - length w.anchors) w.first2 w.complete_are
       ∙ ap (λ n. take (64 - length w.row1) (drop (from - n) contents.complete)) a))
       (w.is3 ∙ ap (λ l. w.row2 ++ crl_rows l)
-      (lent list_in w.first_deltas w.deltas contents.deltas (64 - length w.row2)
+      (borrowed list_in w.first_deltas w.deltas contents.deltas (64 - length w.row2)
       (from - length w.anchors - length w.complete) w.first3 w.deltas_are
       ∙ ap (λ n. take (64 - length w.row2) (drop (from - n - length w.complete) contents.deltas)) a
       ∙ ap (λ n. take (64 - length w.row2)

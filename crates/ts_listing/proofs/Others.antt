@@ -35,13 +35,13 @@ module _ (others rows : List (Vec ℕ Global)) (i : ℕ) (row : Vec ℕ Global) 
       ∙ sym one_more
 
   -- another one is kept
-  pub kept_more : (kept next : List (Bor (List ℕ))) (lent : Bor (List ℕ))
+  pub kept_more : (kept next : List (Bor (List ℕ))) (borrowed : Bor (List ℕ))
       → map octets_in kept ≡ missing (map octets_of others) (map octets_of (take i rows))
       → list_any (λ (other : Vec ℕ Global). bytes_eq row.items other.items) others ≡ false
-      → lent.now ≡ row.items → next ≡ kept ++ lent ∷ []
+      → borrowed.now ≡ row.items → next ≡ kept ++ borrowed ∷ []
       → map octets_in next ≡ missing (map octets_of others) (map octets_of (take (i + 1) rows))
-  kept_more kept next lent so_far is same pushed =
-      ap (map octets_in) pushed ∙ map-append octets_in kept (lent ∷ [])
+  kept_more kept next borrowed so_far is same pushed =
+      ap (map octets_in) pushed ∙ map-append octets_in kept (borrowed ∷ [])
       ∙ (λ j. so_far j ++ same j ∷ [])
       ∙ ap (λ b. missing (map octets_of others) (map octets_of (take i rows)) ++ cond (not b) (row.items ∷ []) []) (sym (sym (among row.items others) ∙ is))
       ∙ sym one_more

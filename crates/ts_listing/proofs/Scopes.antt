@@ -3,10 +3,10 @@ use Rattle.std.proofs.Common.{◌≡◌, ◌∙◌, ℕ, List, Option, ap}
 use Rattle.std.specs.Prelude.{map, option_map}
 use Rattle.std.specs.List.{find}
 use Rattle.std.specs.Str.{bytes_eq}
-use Rattle.ts_ext.specs.declared.extension.Extension.{Extension as Borrowed}
+use Rattle.ts_extensions.specs.declared.extension.Extension.{Extension as Borrowed}
 use Rattle.ts_ext.specs.declared.known.Known.TheVariants.{IssuingDistributionPoint}
-use Rattle.ts_ext.specs.Extension.{Extension, Located, unlocated}
-use Rattle.ts_ext.specs.ExtensionView.{located_as}
+use Rattle.ts_extensions.specs.Extension.{Extension, Located, unlocated}
+use Rattle.ts_extensions.specs.ExtensionView.{located_as}
 use Rattle.ts_ext.specs.Known.{identifier_of}
 use Rattle.ts_crl.specs.EntryView.{extension_as}
 use Rattle.ts_crl.proofs.Finds.{seen-twice, unlocated-find}

@@ -3,14 +3,14 @@ use Rattle.std.specs.Prelude.{ℕ, ℤ, List, [], ◌++◌, map, take, length, m
 use Rattle.std.specs.Prelude.{option_map, unwrap_or}
 use Rattle.std.specs.List.{find, flat_map}
 use Rattle.ts_ext.specs.declared.known.Known.TheVariants.{IssuingDistributionPoint}
-use Rattle.ts_ext.specs.Extension.{Extension}
+use Rattle.ts_extensions.specs.Extension.{Extension}
 use Rattle.ts_name.specs.Canon.{Attr}
 use Rattle.ts_name.specs.NameEncoding.{encoded_rdn}
 use Rattle.ts_field.specs.declared.time.Time.{Time}
 use Rattle.ts_cert.specs.CertView.{certificate_in}
 use Rattle.ts_crl.specs.List.{CertificateList}
 use Rattle.ts_crl.specs.Values.{crl_number, base_number, list_extensions, is_known}
-use Rattle.ts_store.specs.Commands.{purposes_encoding}
+use Rattle.ts_command.specs.Commands.{purposes_encoding}
 use Rattle.ts_store.specs.Lists.{list_in}
 use Rattle.ts_store.specs.Store.{StoreState}
 use Rattle.ts_store.specs.declared.anchor.TrustAnchor.{TrustAnchor}

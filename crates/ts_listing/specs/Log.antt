@@ -1,17 +1,13 @@
 -- The commands that a store took, as rows.
 use Rattle.std.specs.Prelude.{ℕ, List, [], ◌∷◌, ◌++◌, map, length}
 use Rattle.sha2.specs.Sha256.{sha256}
-use Rattle.ts_store.specs.Commands.{id_of, purposes_encoding}
-use Rattle.ts_store.specs.declared.command.Command.{Command}
-use Rattle.ts_store.specs.declared.command.Command.TheVariants.{AddAnchor, WithdrawAnchor, LoadCrl}
-use Rattle.ts_store.specs.declared.command.Command.TheVariants.{DropCrl, SetPurposes, Noop}
-use Rattle.ts_store.specs.declared.outcome.Outcome.{Outcome}
-use Rattle.ts_store.specs.declared.outcome.Outcome.TheVariants.{Applied, Repeated, Refused}
-use Rattle.ts_store.specs.declared.outcome.Refusal.{Refusal}
-use Rattle.ts_store.specs.declared.outcome.Refusal.TheVariants.{AnchorThere, NoAnchor, Malformed}
-use Rattle.ts_store.specs.declared.outcome.Refusal.TheVariants.{OlderCrl, CriticalCrlExtension}
-use Rattle.ts_store.specs.declared.outcome.Refusal.TheVariants.{StoreFull, DeltaCrl, NoCrl}
-use Rattle.ts_store.specs.declared.outcome.Refusal.TheVariants.{RelativeName, Indirect}
+use Rattle.ts_command.specs.Commands.{id_of, purposes_encoding}
+use Rattle.ts_command.specs.declared.command.Command.{Command}
+use Rattle.ts_command.specs.declared.command.Command.TheVariants.{AddAnchor, LoadCrl, DropCrl}
+use Rattle.ts_command.specs.declared.command.Command.TheVariants.{WithdrawAnchor, SetPurposes, Noop}
+use Rattle.ts_command.specs.declared.outcome.Outcome.{Outcome}
+use Rattle.ts_command.specs.declared.outcome.Outcome.TheVariants.{Applied, Repeated, Refused}
+use Rattle.ts_command.specs.Outcomes.{refusal_code}
 use Rattle.ts_history.specs.Outcome.{outcome_after}
 use Rattle.ts_question.specs.Rows.{CommandLine, command_encoding}
 use Rattle.ts_listing.specs.Listing.{first_octets, narrow}
@@ -44,18 +40,6 @@ about_of (Noop id) = []
 abbrev pub purposes_set : Command → List ℕ
 purposes_set (SetPurposes id anchor purposes) = purposes_encoding purposes
 purposes_set other = []
-
-abbrev pub refusal_code : Refusal → ℕ
-refusal_code AnchorThere = 1
-refusal_code NoAnchor = 2
-refusal_code Malformed = 3
-refusal_code OlderCrl = 4
-refusal_code CriticalCrlExtension = 5
-refusal_code StoreFull = 6
-refusal_code DeltaCrl = 7
-refusal_code NoCrl = 8
-refusal_code RelativeName = 9
-refusal_code Indirect = 10
 
 -- 0 applied, 1 repeated, 2 refused
 abbrev pub outcome_code : Outcome → ℕ

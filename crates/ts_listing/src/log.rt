@@ -5,7 +5,7 @@ ghost use Rattle.ts_question.specs.Rows.{command_encoding};
 ghost use Rattle.ts_question.specs.RowView.{command_line};
 ghost use Rattle.ts_listing.specs.Listing.{narrow};
 ghost use Rattle.ts_listing.specs.Log.{about_of, command_row, detail_of, kind_of, outcome_code};
-ghost use Rattle.ts_listing.specs.Log.{purposes_set, refusal_code, size_of};
+ghost use Rattle.ts_listing.specs.Log.{purposes_set, size_of};
 ghost use Rattle.ts_listing.specs.Page.{page};
 ghost use Rattle.ts_listing.specs.View.{about_in, line_in};
 
@@ -13,8 +13,9 @@ use crate::digests::{is_command_id, is_digest};
 use crate::page::{MAX_ROWS, cut, narrow, window};
 use crate::purposes::purposes_octets;
 use std::alloc::{AllocError, Global};
+use ts_command::{Command, Outcome};
 use ts_question::{CommandRow, OctetStrings, Reply};
-use ts_store::{Command, Outcome, Refusal, digest};
+use ts_store::digest;
 
 /// A command that a store took, and what it came to, without what it loads.
 #[derive(Debug, Drop)]
@@ -82,24 +83,6 @@ pub fn purposes_of(alloc: Global, command: &Command) -> Result<Vec<u8>, AllocErr
     }
 }
 
-/// The code of a refusal.
-fn refusal_code(refusal: Refusal) -> u8
-    ensures { result ≡ refusal_code refusal }
-{
-    match refusal {
-        Refusal::AnchorThere => 1,
-        Refusal::NoAnchor => 2,
-        Refusal::Malformed => 3,
-        Refusal::OlderCrl => 4,
-        Refusal::CriticalCrlExtension => 5,
-        Refusal::StoreFull => 6,
-        Refusal::DeltaCrl => 7,
-        Refusal::NoCrl => 8,
-        Refusal::RelativeName => 9,
-        Refusal::Indirect => 10,
-    }
-}
-
 /// The code of an outcome: 0 applied, 1 repeated, 2 refused.
 fn outcome_code(outcome: Outcome) -> u8
     ensures { result ≡ outcome_code outcome }
@@ -119,7 +102,7 @@ fn detail_of(outcome: Outcome) -> u32
     match outcome {
         Outcome::Applied => 0,
         Outcome::Repeated(position) => position,
-        Outcome::Refused(refusal) => u32::from(refusal_code(refusal)),
+        Outcome::Refused(refusal) => u32::from(refusal.code()),
     }
 }
 

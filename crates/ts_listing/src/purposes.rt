@@ -1,11 +1,11 @@
 //! The octets of purposes.
 
 ghost use Rattle.std.specs.Prelude.{◌≡◌, IfOk};
-ghost use Rattle.ts_store.specs.Commands.{purposes_encoding};
+ghost use Rattle.ts_command.specs.Commands.{purposes_encoding};
 
 use std::alloc::{AllocError, Global};
 use ts_codec::writing::push_oids;
-use ts_store::Purposes;
+use ts_command::Purposes;
 
 /// The octets of purposes, as a command writes them.
 pub(crate) fn purposes_octets(alloc: Global, purposes: &Purposes) -> Result<Vec<u8>, AllocError>

@@ -3,7 +3,7 @@
 
 ghost use Rattle.std.specs.Prelude.{◌≡◌, ℕ, true, false};
 ghost use Rattle.ts_synod.specs.declared.message.Message.{Message};
-ghost use Rattle.ts_store.specs.declared.command.Command.{Command as Change};
+ghost use Rattle.ts_command.specs.declared.command.Command.{Command as Change};
 ghost use Rattle.ts_wire.specs.Frames.{frame_encoding};
 ghost use Rattle.ts_wire.specs.declared.frame.Frame.TheVariants as frames;
 ghost use Rattle.ts_access.specs.Roles.{may};

@@ -1,5 +1,5 @@
-//! Many connections, served at once by one thread, over the sockets of `mio`; and what a node
-//! carries to its peers.
+//! Many connections, served at once by one thread, over the sockets of `mio` (`ts_sockets`); and
+//! what a node carries to its peers.
 //!
 //! ```text
 //! let limits = Limits::usual();
@@ -22,22 +22,10 @@
 //! what still comes is read and dropped until the client ends or the time is over: else the system
 //! could take the answer away.
 //!
-//! Where keys are wanted, a lock stands between a socket and its connection (`ts_access`): what
-//! comes is handed on as the key's role may ask it, what leaves is sealed. A connection that shows
-//! no key for as long as a request may take is closed, and each is after an hour. The file of keys
-//! is read again within a second of its change.
-//!
 //! Where HTTP is wanted, its connections (`ts_http`) have a listener and slots of their own, as
 //! many as those of frames. What a request asks of the node the loop asks for it, on a connection
 //! without a socket, as for itself. A round visits them behind the others: one read and at most 8
 //! requests each, and one write once all is kept.
-//!
-//! With a group the loop is also a client of its own node: on a connection without a socket it
-//! takes the node's messages, hands the node those to itself at once (which it gives only beyond
-//! the bounds of a turn), and puts the others on a line to each peer, which is dialed again where
-//! it breaks (`ts_carrier`). While a command of a client is under way no other is taken; it is
-//! proposed again where its round was lost. Standard error is told of each command that was chosen:
-//! its position, kind, outcome and id.
 //!
 //! A sync of the node's disks stops the round, and every connection waits for it. Where what
 //! followed from a round can't be kept the loop ends, and nothing that was answered in it leaves.
@@ -46,51 +34,31 @@
 //!   of `ts_links` were made from connections of which none was open, and the server is after
 //!   turns: those of the requests that these moves take, in their order, and what it tried to keep
 //!   between them. So the law `ts_links::each_is_answered` speaks of each connection. `ahead`. All
-//!   that is written on a socket passes `write_some`, whose condition is that what was answered is
-//!   kept.
+//!   that is written on a socket passes `write_some` of `ts_sockets`, whose condition is that what
+//!   was answered is kept.
 //! - [`laws::each_speaks_for_itself`]: of the frames that `ts_access` hands on: a peer's key brings
 //!   messages of that peer to this node alone, and only an admin's brings a command.
-//! - [`Counts`]: what was done, for whoever watches.
 //!
 //! # Not promised
 //!
 //! Nothing says what a socket gives or takes: that the octets of a move `Came` are those that came,
 //! or that the lock let through, and those of `Left` reach the client, is the work of `read_once`
-//! and `write_once` in `door` and of `lock`. Nor that anything is accepted, read, written or
-//! carried, that what HTTP is answered is what the node was asked for it (`web`, `web_door`), that
-//! a line brings only what the node gave, that the system's time is right, or that a
-//! round ends soon. `bench/hostile`, `tools/forge` and `bench/group` try these over the loopback.
-//! What is counted.
+//! and `write_once` of `ts_sockets`. Nor that anything is accepted, read, written or carried, that
+//! what HTTP is answered is what the node was asked for it (`web`, `web_door`), that a line brings
+//! only what the node gave, that the system's time is right, or that a round ends soon.
+//! `bench/hostile`, `tools/forge` and `bench/group` try these over the loopback. What is counted.
 #![tactic(auto)]
 
-mod accepting;
-mod access;
-mod asking;
-mod carrier;
-mod counts;
-mod door;
 mod fault;
-mod frames;
-mod group;
 pub mod laws;
-mod limits;
-mod line;
-mod lock;
 mod pumping;
 mod reporting;
 mod rounds;
-mod seal;
-mod senders;
 mod serving;
 mod showing;
-mod telling;
 mod watch;
 mod web;
 mod web_door;
 
-pub use access::Access;
-pub use counts::Counts;
 pub use fault::LoopFault;
-pub use group::{Group, PeerAddress};
-pub use limits::Limits;
 pub use serving::serve_all;

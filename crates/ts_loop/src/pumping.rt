@@ -3,14 +3,13 @@
 
 ghost use Rattle.ts_links.specs.Calls.{HasReached, IsQuiet};
 
-use crate::carrier::Carrier;
-use crate::door::{Door, PIECE, finish, read_once, shut_if_done, write_last};
 use crate::watch::{Watch, kind_at, moment};
 use std::net::SocketAddr;
 use std::rt::Clock;
 use ts_access::Key;
 use ts_links::reaching::take_some;
 use ts_links::{Connections, Service, Stage};
+use ts_sockets::{Carrier, Door, PIECE, finish, read_once, shut_if_done, write_last};
 
 /// The most requests of one connection that are taken before the others have their turn.
 const TURNS: u32 = 64;

@@ -1,8 +1,8 @@
 //! How the server does, in lines of text, for whoever asks for a report.
 
-use crate::line::Line;
 use crate::showing::ShownMetrics;
 use std::alloc::{AllocError, Global};
+use ts_sockets::Line;
 
 /// How many milliseconds a report is given out for.
 pub(crate) const FRESH: u64 = 1_000;

@@ -3,9 +3,6 @@
 
 ghost use Rattle.ts_links.specs.Calls.{HasReached, IsQuiet};
 
-use crate::carrier::Carrier;
-use crate::counts::{Counts, Why};
-use crate::door::{Door, PIECE};
 use crate::pumping::{PumpEnd, Round, begin, end};
 use crate::watch::Watch;
 use crate::web::{WEB, Web};
@@ -13,12 +10,10 @@ use mio::{Events, Token};
 use std::rt::Clock;
 use ts_links::reaching::close;
 use ts_links::{Connections, Deadlines, Service};
+use ts_sockets::{Carrier, Counts, Door, PEERS, PIECE, Why};
 
 /// The token of the listener. The door of a slot has the slot's number.
 pub(crate) const LISTENER: Token = Token(usize::MAX);
-
-/// The token of the first peer's line. The others follow.
-pub(crate) const PEERS: usize = usize::MAX - 16;
 
 /// How many milliseconds pass until late connections are looked for again.
 const SWEEP: u64 = 100;
@@ -199,13 +194,8 @@ pub(crate) fn end_all<S: Service, R>(
 /// one.
 fn is_over(place: &Option<Door>, deadlines: &Deadlines, now: u64) -> bool {
     match place {
-        Some(
-            Door {
-                lock: Some(lock),
-                ..
-            },
-        ) => lock.is_over(deadlines.request_ms, now),
-        _ => false,
+        Some(door) => door.is_over(deadlines.request_ms, now),
+        None => false,
     }
 }
 

@@ -4,19 +4,12 @@ ghost use Rattle.std.specs.Prelude.{◌≡◌};
 ghost use Rattle.ts_question.specs.Question.{StoreQuestion};
 ghost use Rattle.ts_node.specs.Machine.{store_of};
 ghost use Rattle.ts_node.specs.Ahead.{IsAhead};
-ghost use Rattle.ts_store.specs.Octets.{octets_of};
+ghost use Rattle.ts_command.specs.Octets.{octets_of};
 ghost use Rattle.ts_serve.specs.Turn.{HasKept, StagedTurn};
 ghost use Rattle.ts_links.specs.Calls.{HasReached, IsQuiet};
 ghost use Rattle.ts_links.specs.Turns.{IsServed};
 
-use crate::accepting::{Accepts, Entry, accept_some};
-use crate::access::Access;
-use crate::carrier::Carrier;
-use crate::counts::Counts;
-use crate::door::{Door, PIECE};
 use crate::fault::LoopFault;
-use crate::group::Group;
-use crate::limits::Limits;
 use crate::pumping::Round;
 use crate::reporting::{FRESH, report_of};
 use crate::rounds::{LISTENER, begin_all, end_all, mark, sweep};
@@ -31,12 +24,15 @@ use std::random::RandomSource;
 use std::rt::{Clock, Files};
 use std::time::{Duration, Instant, SystemTime, UNIX_EPOCH};
 use ts_access::Key;
+use ts_command::{Command, Outcome};
 use ts_disk::Disk;
 use ts_links::{Connections, Service};
 use ts_node::{Identity, Machine};
 use ts_question::{Answer, Question};
 use ts_serve::Server;
-use ts_store::{Command, Outcome};
+use ts_sockets::{
+    Accepts, Access, Carrier, Counts, Door, Entry, Group, Limits, PIECE, accept_some,
+};
 
 /// How many milliseconds a round waits at most.
 const ROUND: u64 = 50;

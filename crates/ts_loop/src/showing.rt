@@ -1,7 +1,5 @@
 //! What the loop counts, for `/metrics`.
 
-use crate::carrier::Carrier;
-use crate::counts::Counts;
 use crate::watch::Watch;
 use std::alloc::{AllocError, Global};
 use std::fs;
@@ -9,6 +7,7 @@ use std::io::Read;
 use std::rt::Files;
 use ts_meter::Meter;
 use ts_site::{Board, Label, Metric, PeerLine};
+use ts_sockets::{Carrier, Counts};
 
 /// What is shown.
 #[derive(Clone, Copy)]
@@ -51,9 +50,13 @@ fn show_open(board: &mut Board, frames: &Counts, http: &Counts) -> Result<(), Al
     Ok(())
 }
 
-/// Shows how connections of frames began and ended.
-fn show_frames(board: &mut Board, counts: &Counts) -> Result<(), AllocError> {
-    let help = "Connections of frames, by what became of them";
+/// Shows how connections of a kind began and ended.
+fn show_counts(
+    board: &mut Board,
+    name: &'static str,
+    help: &'static str,
+    counts: &Counts,
+) -> Result<(), AllocError> {
     let rows = [
         ("accepted", counts.accepted),
         ("refused", counts.refused),
@@ -64,25 +67,7 @@ fn show_frames(board: &mut Board, counts: &Counts) -> Result<(), AllocError> {
         ("failed", counts.failed),
     ];
     for (kind, value) in rows {
-        board.show(grown("connections_total", help, kind, value))?;
-    }
-    Ok(())
-}
-
-/// Shows how connections of HTTP began and ended.
-fn show_http(board: &mut Board, counts: &Counts) -> Result<(), AllocError> {
-    let help = "Connections of HTTP, by what became of them";
-    let rows = [
-        ("accepted", counts.accepted),
-        ("refused", counts.refused),
-        ("made_room", counts.made_room),
-        ("failed_accept", counts.failed_accepts),
-        ("ended", counts.ended),
-        ("late", counts.late),
-        ("failed", counts.failed),
-    ];
-    for (kind, value) in rows {
-        board.show(grown("http_connections_total", help, kind, value))?;
+        board.show(grown(name, help, kind, value))?;
     }
     Ok(())
 }
@@ -191,8 +176,10 @@ pub(crate) fn show_all<R: Files>(
 ) -> Result<(), AllocError> {
     board.metrics = Vec::new(alloc);
     show_open(board, shown.frames, &shown.http)?;
-    show_frames(board, shown.frames)?;
-    show_http(board, &shown.http)?;
+    let help = "Connections of frames, by what became of them";
+    show_counts(board, "connections_total", help, shown.frames)?;
+    let help = "Connections of HTTP, by what became of them";
+    show_counts(board, "http_connections_total", help, &shown.http)?;
     shown.watch.show(board)?;
     show_peers(board, shown.carrier)?;
     show_lines(alloc, board, shown.carrier)?;

@@ -3,13 +3,7 @@
 
 ghost use Rattle.ts_links.specs.Calls.{HasReached};
 
-use crate::accepting::Accepts;
-use crate::access::Access;
-use crate::carrier::Carrier;
-use crate::counts::{Counts, Why};
-use crate::door::PIECE;
 use crate::fault::LoopFault;
-use crate::limits::Limits;
 use crate::pumping::Round;
 use crate::watch::Watch;
 use crate::web_door::{RoundEnd, WebDoor, begin_web, end_web};
@@ -22,6 +16,7 @@ use std::net::{Net, ToSocketAddrs};
 use std::rt::Clock;
 use ts_links::{Connections, Service};
 use ts_site::{Board, Face, Scene};
+use ts_sockets::{Accepts, Access, Carrier, Counts, Limits, PIECE, Why};
 
 /// The token of the listener. The doors follow.
 pub(crate) const WEB: usize = 1_000_000;

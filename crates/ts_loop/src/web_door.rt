@@ -3,10 +3,6 @@
 ghost use Rattle.std.specs.Prelude.{◌≤◌, IfSome};
 ghost use Rattle.ts_links.specs.Calls.{HasReached};
 
-use crate::asking::ask;
-use crate::carrier::Carrier;
-use crate::door::{PIECE, write_some};
-use crate::frames::first_of;
 use crate::pumping::Round;
 use crate::watch::{Watch, moment};
 use mio::event::Event;
@@ -17,6 +13,7 @@ use std::net::Shutdown;
 use std::rt::Clock;
 use ts_links::{Connections, Service};
 use ts_site::{Board, Face, Scene};
+use ts_sockets::{Carrier, PIECE, ask, first_of, write_some};
 use ts_wire::Frame;
 
 /// The most requests of one connection that are answered before the others have their turn.

@@ -18,8 +18,8 @@ use Rattle.ts_cert.specs.Rules.{OptionalFields, extensions_fault}
 use Rattle.ts_cert.proofs.FieldRules.{Has, KeepsRules, rules-again}
 use Rattle.ts_shape.specs.Repeats.{first_repeated}
 use Rattle.ts_ext.specs.declared.known.Holder.TheVariants.{Certificate as CertificateHolder}
-use Rattle.ts_ext.specs.Extension.{Extension}
-use Rattle.ts_ext.specs.ValueRules.{AreValid}
+use Rattle.ts_extensions.specs.Extension.{Extension}
+use Rattle.ts_extensions.specs.ValueRules.{AreValid}
 use Rattle.ts_make.specs.Extensions.{described_extensions, field_of}
 use Rattle.ts_make.proofs.SignedRead.{signed-read}
 use Rattle.ts_make.specs.declared.description.CertText.{CertText}

@@ -12,7 +12,7 @@ use Rattle.ts_der.specs.ObjectIdentifier.{is_oid, series_of, subidentifier}
 use Rattle.ts_sig.specs.StandIn.{algorithm_identifier}
 use Rattle.ts_shape.specs.Fields.{Within, IfAny}
 use Rattle.ts_shape.specs.Items.{AreItems}
-use Rattle.ts_ext.specs.Extension.{Extension, IsExtension, AreExtensions}
+use Rattle.ts_extensions.specs.Extension.{Extension, IsExtension, AreExtensions}
 use Rattle.ts_crl.specs.declared.version.ListVersion.TheVariants.{V2}
 use Rattle.ts_crl.specs.List.{RevokedCertificate, TbsCertList, CertificateList}
 use Rattle.ts_crl.specs.Encoding.{crl_version_octets, IsRevokedCertificate, AreRevoked, IsTbsCertList, IsSignedCrl}

@@ -18,9 +18,9 @@ use Rattle.ts_time.specs.Civil.{IsInYears}
 use Rattle.ts_ext.specs.declared.known.Holder.TheVariants.{List as ListHolder, Entry}
 use Rattle.ts_ext.specs.declared.reason_code.ReasonCode.{ReasonCode}
 use Rattle.ts_ext.specs.Ext.{reasonCode}
-use Rattle.ts_ext.specs.Extension.{Extension}
+use Rattle.ts_extensions.specs.Extension.{Extension}
 use Rattle.ts_ext.specs.Known.{known_at, entry_extension}
-use Rattle.ts_ext.specs.ValueRules.{IsValid, AreValid}
+use Rattle.ts_extensions.specs.ValueRules.{IsValid, AreValid}
 use Rattle.ts_field.specs.declared.time.Time.{Time}
 use Rattle.ts_crl.specs.Entries.{entries_of}
 use Rattle.ts_crl.specs.Fault.{ListFault, broken, noNextUpdate, criticalCrlExtension, indirect, relativeName, deltaCrl}

@@ -16,7 +16,7 @@ use Rattle.ts_shape.specs.Shape.{◌or_else◌}
 use Rattle.ts_ext.specs.declared.known.Holder.TheVariants.{List as ListHolder}
 use Rattle.ts_ext.specs.declared.known.Known.TheVariants.{IssuingDistributionPoint}
 use Rattle.ts_ext.specs.Ext.{ExtValue, issuingDistributionPoint, ext_of}
-use Rattle.ts_ext.specs.Extension.{Extension}
+use Rattle.ts_extensions.specs.Extension.{Extension}
 use Rattle.ts_ext.specs.Known.{known_at, list_extension, identifier_of}
 use Rattle.ts_ext.specs.Points.{ListScope, issuing_point_of}
 use Rattle.ts_field.specs.declared.time.Time.{Time}

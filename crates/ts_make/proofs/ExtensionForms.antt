@@ -5,7 +5,7 @@ use Rattle.ts_der.specs.Element.{encode}
 use Rattle.ts_der.specs.ObjectIdentifier.{is_oid, series_of, subidentifier}
 use Rattle.ts_shape.specs.Fields.{Within, IfAny}
 use Rattle.ts_shape.specs.Items.{AreItems}
-use Rattle.ts_ext.specs.Extension.{Extension, IsExtension, AreExplicit}
+use Rattle.ts_extensions.specs.Extension.{Extension, IsExtension, AreExplicit}
 use Rattle.ts_ext.specs.Encoding.{IfTrue}
 use Rattle.ts_make.specs.declared.description.ExtensionText.{ExtensionText}
 use Rattle.ts_make.specs.declared.description.ExtensionText.TheVariants as part

@@ -8,7 +8,7 @@ use Rattle.ts_make.specs.declared.description.RdnText.{RdnText}
 use Rattle.ts_make.specs.declared.fault.MakeFault.{MakeFault}
 use Rattle.ts_make.specs.declared.fault.MakeFault.TheVariants.{Memory, TooLong, Unreadable}
 use Rattle.ts_make.specs.Description.{rdn_in, rdns_in}
-use Rattle.ts_ext.specs.Extension.{Extension}
+use Rattle.ts_extensions.specs.Extension.{Extension}
 use Rattle.ts_make.specs.Extensions.{critical_octets, extension_content, extension_octets, extension, id_ce, sequence_extension}
 use Rattle.ts_make.specs.inside.Writing.{IsTooLong}
 

@@ -6,7 +6,7 @@ use Rattle.std.specs.List.{flat_map}
 use Rattle.ts_der.specs.declared.oid.OidRef.{OidRef}
 use Rattle.ts_der.specs.Element.{encode}
 use Rattle.ts_ext.specs.declared.reason_code.ReasonCode.{ReasonCode}
-use Rattle.ts_ext.specs.Extension.{Extension}
+use Rattle.ts_extensions.specs.Extension.{Extension}
 use Rattle.ts_ext.specs.Encoding.{reason_number}
 use Rattle.ts_make.specs.declared.crl_description.CrlText.{CrlText}
 use Rattle.ts_make.specs.Serial.{serial_content}

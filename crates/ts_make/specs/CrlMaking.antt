@@ -8,8 +8,8 @@ use Rattle.ts_shape.specs.declared.fault.CertRule.TheVariants.{Der}
 use Rattle.ts_shape.specs.Repeats.{first_repeated}
 use Rattle.ts_time.specs.Civil.{IsInYears}
 use Rattle.ts_ext.specs.declared.known.Holder.TheVariants.{List as ListHolder}
-use Rattle.ts_ext.specs.Extension.{Extension}
-use Rattle.ts_ext.specs.ValueRules.{AreValid}
+use Rattle.ts_extensions.specs.Extension.{Extension}
+use Rattle.ts_extensions.specs.ValueRules.{AreValid}
 use Rattle.ts_crl.specs.Fault.{ListFault, broken, criticalCrlExtension, deltaCrl}
 use Rattle.ts_crl.specs.List.{CertificateList}
 use Rattle.ts_crl.specs.Rules.{all_as_ruled}

@@ -3,7 +3,7 @@ use Rattle.std.specs.Prelude.{ℕ, Bool, true, false, List, [], ◌∷◌, ◌++
 use Rattle.std.specs.List.{flat_map}
 use Rattle.ts_der.specs.Element.{encode}
 use Rattle.ts_der.specs.Boolean.{boolean_content}
-use Rattle.ts_ext.specs.Extension.{Extension}
+use Rattle.ts_extensions.specs.Extension.{Extension}
 use Rattle.ts_make.specs.declared.description.ExtensionText.{ExtensionText}
 use Rattle.ts_make.specs.declared.description.ExtensionText.TheVariants as part
 use Rattle.ts_make.specs.declared.kind.Kind.{Kind}

@@ -8,8 +8,8 @@ use Rattle.ts_shape.specs.declared.fault.CertRule.TheVariants.{Der}
 use Rattle.ts_shape.specs.Repeats.{first_repeated}
 use Rattle.ts_time.specs.Civil.{IsInYears}
 use Rattle.ts_ext.specs.declared.known.Holder.TheVariants.{Certificate}
-use Rattle.ts_ext.specs.Extension.{Extension}
-use Rattle.ts_ext.specs.ValueRules.{AreValid}
+use Rattle.ts_extensions.specs.Extension.{Extension}
+use Rattle.ts_extensions.specs.ValueRules.{AreValid}
 use Rattle.ts_cert.specs.Reading.{certificate_of}
 use Rattle.ts_make.specs.declared.description.CertText.{CertText}
 use Rattle.ts_make.specs.declared.fault.MakeFault.{MakeFault}

@@ -18,8 +18,9 @@ use crate::fault::MakeFault;
 use crate::tbs::write_tbs;
 use crate::times::TimeText;
 use std::alloc::Global;
-use ts_cert::{Cert, MAX_CERTIFICATE};
+use ts_cert::Cert;
 use ts_der::tag::SEQUENCE;
+use ts_octets::MAX_CERTIFICATE;
 use ts_sig::{STAND_IN_ALGORITHM, digest_signature};
 
 /// What is signed, the algorithm and the signature, as one element (RFC 5280 4.1.1).

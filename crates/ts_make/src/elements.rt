@@ -6,9 +6,9 @@ ghost use Rattle.ts_make.specs.inside.Writing.{Appends, Writes};
 
 use crate::fault::MakeFault;
 use std::alloc::Global;
-use ts_crl::MAX_CRL;
 use ts_der::Writer;
 use ts_der::tag::BIT_STRING;
+use ts_octets::MAX_CRL;
 
 /// [3] EXPLICIT, the extensions of a certificate.
 pub(crate) const EXTENSIONS: u8 = 0xa3;

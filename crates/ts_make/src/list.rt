@@ -19,8 +19,9 @@ use crate::elements::{append, append_bits, element};
 use crate::fault::MakeFault;
 use crate::times::TimeText;
 use std::alloc::Global;
-use ts_crl::{Crl, CrlFault, MAX_CRL};
+use ts_crl::{Crl, CrlFault};
 use ts_der::tag::SEQUENCE;
+use ts_octets::MAX_CRL;
 use ts_sig::{STAND_IN_ALGORITHM, digest_signature};
 
 /// What is signed, the algorithm and the signature, as one element (RFC 5280 5.1.1).

@@ -1,4 +1,4 @@
--- What contracts see of a general name that a reader lends.
+-- What contracts see of a general name that is borrowed.
 use Rattle.ts_name.specs.declared.general.General.{General}
 use Rattle.ts_name.specs.declared.general.General.TheVariants.{OtherName, Rfc822Name, DnsName}
 use Rattle.ts_name.specs.declared.general.General.TheVariants.{X400Address, DirectoryName}

@@ -1,4 +1,4 @@
--- What contracts see of the names that readers lend.
+-- What contracts see of the names that are borrowed.
 use Rattle.std.specs.Prelude.{List}
 use Rattle.ts_der.specs.Element.{inside}
 use Rattle.ts_der.specs.View.{now}

@@ -1,4 +1,4 @@
--- What contracts see of a general subtree that a reader lends.
+-- What contracts see of a general subtree that is borrowed.
 use Rattle.std.specs.Prelude.{[], ◌∷◌, unwrap_or, option_map}
 use Rattle.ts_name.specs.declared.subtree.Subtree.{Subtree}
 use Rattle.ts_name.specs.GeneralView.{general_in}

@@ -1,4 +1,4 @@
--- What contracts see of the attributes that a reader lends.
+-- What contracts see of the attributes that are borrowed.
 use Rattle.ts_name.specs.declared.attribute.Attribute.{Attribute}
 use Rattle.ts_name.specs.Canon.{Attr}
 

@@ -8,7 +8,7 @@ use Rattle.ts_ext.specs.declared.known.Holder.TheVariants.{Certificate as OfCert
 use Rattle.ts_ext.specs.declared.known.Known.TheVariants as extension
 use Rattle.ts_ext.specs.declared.basic_constraints.BasicConstraints.{BasicConstraints}
 use Rattle.ts_ext.specs.declared.policy_constraints.PolicyConstraints.{PolicyConstraints}
-use Rattle.ts_ext.specs.Extension.{Extension}
+use Rattle.ts_extensions.specs.Extension.{Extension}
 use Rattle.ts_ext.specs.Known.{known_at, identifier_of}
 use Rattle.ts_ext.specs.NamedBits.{bit}
 use Rattle.ts_ext.specs.Policies.{Information, Qualifier}

@@ -73,7 +73,8 @@ impl<'a> State<'a> {
         last: bool,
     ) -> Option<Reason<OidRef<'a>>>
         ensures { (above : List CertPolicies)
-            → FindsBelow 5 (at (asked_by S.accepts context.now) self.now above (cert_in cert.now) last) result }
+            → FindsBelow 5 (at (asked_by S.accepts context.now) self.now above
+            (cert_in cert.now) last) result }
     {
         if !self.is_trusted(context) {
             return Some(Reason::AnchorPurpose);
@@ -118,7 +119,8 @@ impl<'a> State<'a> {
         last: bool,
     ) -> Status
         ensures { (above : List CertPolicies)
-            → result ≡ status_at (at (asked_by S.accepts context.now) self.now above (cert_in cert.now) last) }
+            → result ≡ status_at (at (asked_by S.accepts context.now) self.now above
+            (cert_in cert.now) last) }
     {
         let issuer = Issuer {
             key: self.key,
@@ -144,8 +146,10 @@ impl<'a> State<'a> {
         last: bool,
     ) -> Option<Reason<OidRef<'a>>>
         ensures { (above : List CertPolicies)
-            → MeetsBelow 5 (at (asked_by S.accepts context.now) self.now above (cert_in cert.now) last)
-            → FindsBelow 7 (at (asked_by S.accepts context.now) self.now above (cert_in cert.now) last) result }
+            → MeetsBelow 5 (at (asked_by S.accepts context.now) self.now above
+            (cert_in cert.now) last)
+            → FindsBelow 7 (at (asked_by S.accepts context.now) self.now above
+            (cert_in cert.now) last) result }
     {
         match self.status(context, cert, last) {
             Status::Good => None,
@@ -206,7 +210,8 @@ impl<'a> State<'a> {
         last: bool,
     ) -> Option<Reason<OidRef<'a>>>
         ensures { (above : List CertPolicies)
-            → FindsBelow 11 (at (asked_by S.accepts context.now) self.now above (cert_in cert.now) last) result }
+            → FindsBelow 11 (at (asked_by S.accepts context.now) self.now above
+            (cert_in cert.now) last) result }
     {
         if let Some(reason) = self.first_of_origin(context, cert, last) {
             return Some(reason);

@@ -5,7 +5,7 @@ ghost use Rattle.std.specs.List.{find, list_any};
 ghost use Rattle.ts_der.specs.Element.{inside};
 ghost use Rattle.ts_der.specs.View.{now};
 ghost use Rattle.ts_shape.specs.Items.{items_at};
-ghost use Rattle.ts_ext.specs.ExtensionView.{extensions_in};
+ghost use Rattle.ts_extensions.specs.ExtensionView.{extensions_in};
 ghost use Rattle.ts_ext.specs.Reading.{policy_qualifier_in};
 ghost use Rattle.ts_ext.specs.View.{information_in, qualifier_in, policies_in, purposes_in};
 ghost use Rattle.ts_cert.specs.CertView.{cert_in};
@@ -20,9 +20,9 @@ ghost use Rattle.ts_path.specs.Extensions.{first_refused as first_refused_of};
 use ts_cert::{Cert, Version};
 use ts_der::OidRef;
 use ts_ext::{
-    CertificatePolicies, ExtendedKeyUsage, Extensions, Holder, Known, PolicyInformation,
-    PolicyQualifier,
+    CertificatePolicies, ExtendedKeyUsage, Holder, Known, PolicyInformation, PolicyQualifier,
 };
+use ts_extensions::Extensions;
 use ts_shape::SequenceOf;
 
 /// anyExtendedKeyUsage, 2.5.29.37.0 (RFC 5280 4.2.1.12), as the content of an OBJECT IDENTIFIER.

@@ -63,7 +63,7 @@ mod writing;
 
 pub use lists::{OctetStrings, Oids, Places};
 pub use question::{OutOfLimits, Question, Target};
-pub use reading::{MAX_CERTIFICATE, MAX_CHAIN, MAX_POLICIES, MAX_SEARCH, MAX_SUBTREES};
+pub use reading::{MAX_CHAIN, MAX_POLICIES, MAX_SEARCH, MAX_SUBTREES};
 pub use reply::{Answer, Reply};
 pub use rows::{AnchorRow, CommandRow, CrlRow};
 pub use terms::{Flags, Terms};

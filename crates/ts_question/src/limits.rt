@@ -7,9 +7,10 @@ ghost use Rattle.ts_question.specs.Question.{are_certificates, is_target, TermsF
 
 use crate::lists::OctetStrings;
 use crate::question::Target;
-use crate::reading::{MAX_CERTIFICATE, MAX_CHAIN, MAX_POLICIES, MAX_SEARCH, MAX_SUBTREES};
+use crate::reading::{MAX_CHAIN, MAX_POLICIES, MAX_SEARCH, MAX_SUBTREES};
 use crate::terms::Terms;
 use ts_codec::MAX_POSITION;
+use ts_octets::MAX_CERTIFICATE;
 
 /// The most octets of an initial subtree.
 const MAX_SUBTREE: usize = 65_535;

@@ -17,9 +17,8 @@ use ts_codec::reading::{
     blob16, digest, number16, number32, octet, oid, oids, prefix, short_blob, signed_number,
 };
 use ts_der::Oid;
+use ts_octets::MAX_CERTIFICATE;
 
-/// The most octets of a certificate.
-pub const MAX_CERTIFICATE: usize = 65_536;
 /// The most certificates of a chain.
 pub const MAX_CHAIN: usize = 16;
 /// The most certificates of a search: a leaf, and a pool of 32.

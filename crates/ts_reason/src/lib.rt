@@ -16,7 +16,8 @@
 //!
 //! - [`Reason::number`]: the number of the condition, 1 to 18 (`specs/Conditions`).
 //! - `Display`: the name, and the code or the object identifier (`specs/Printed`).
-//! - [`Reason::to_owned`], [`Reason::as_ref`]: the same reason, with memory of its own and borrowed.
+//! - [`Reason::to_owned`], [`Reason::as_ref`]: the same reason, with memory of its own and
+//!   borrowed.
 //! - [`Reason::write`], [`read_reason`]: its one encoding (`specs/Octets`).
 //! - [`Reason::has_encoding`]: each reason has one.
 //!

@@ -2,7 +2,7 @@
 use Rattle.std.proofs.Common.{◌≡◌, ◌∙◌, ◌∷◌, ◌++◌, ℕ, List, Option, Result, Ok, Err, IfOk, ap, sym, length, drop}
 use Rattle.std.specs.Prelude.{replicate}
 use Rattle.std.proofs.Math.Seq.{drop-append_seam}
-use Rattle.ts_store.specs.Commands.{purposes_encoding}
+use Rattle.ts_command.specs.Commands.{purposes_encoding}
 use Rattle.ts_render.specs.Rows.{ArePurposes, AreTold, setting}
 use Rattle.ts_render.specs.declared.rows.PurposeFields.{PurposeFields}
 use Rattle.ts_render.specs.declared.rows.PurposeFields.TheVariants.{Any, These, Unknown}

@@ -2,11 +2,12 @@
 use Rattle.std.specs.Prelude.{◌≡◌, ℕ, List, [], ◌∷◌, ◌++◌, Option, Some, None, map, option_map}
 use Rattle.std.specs.Prelude.{replicate, string_bytes}
 use Rattle.hex.specs.Hex.{encode_lower}
-use Rattle.ts_store.specs.Commands.{purposes_encoding}
+use Rattle.ts_command.specs.Commands.{purposes_encoding}
 use Rattle.ts_question.specs.Rows.{AnchorLine, AnchorFits, anchor_encoding}
 use Rattle.ts_question.specs.Rows.{CrlLine, CrlFits, crl_encoding}
 use Rattle.ts_question.specs.Rows.{CommandLine, CommandFits, command_encoding}
-use Rattle.ts_render.specs.Outcomes.{kind_word, outcome_of, outcome_words}
+use Rattle.ts_command.specs.Outcomes.{outcome_words}
+use Rattle.ts_render.specs.Outcomes.{kind_word, outcome_of}
 use Rattle.ts_render.specs.Texts.{IsPrintable, IsTold, TellsMoment, hex_or_none, dotted_form}
 use Rattle.ts_render.specs.declared.rows.PurposeFields.{PurposeFields}
 use Rattle.ts_render.specs.declared.rows.PurposeFields.TheVariants.{Any, These, Unknown}

@@ -16,9 +16,9 @@
 //!   that they are none. [`row_members`]: the fields as members of an object (`specs/RowMembers`).
 //! - [`write_row`], [`row_text`]: a row as a line that a person reads, and as the text of a JSON
 //!   object; tests say of which words.
-//! - [`chain_fields`]: the certificates of a question, of which the one is marked that a reply names
-//!   (`specs/Chain`).
-//! - [`outcome_text`], [`moment_text`]: what became of a command; a moment.
+//! - [`chain_fields`]: the certificates of a question, of which the one is marked that a reply
+//!   names (`specs/Chain`).
+//! - [`moment_text`]: a moment.
 //!
 //! Out of memory is the only error.
 //!
@@ -40,7 +40,6 @@ pub use chain::{CertificateFields, chain_fields};
 pub use fields::answer_fields;
 pub use lines::{row_text, write_row};
 pub use members::row_members;
-pub use outcome::outcome_text;
 pub use replies::{is_final, valid_in};
 pub use rows::{AnchorFields, CommandFields, CrlFields, PurposeFields, RowFields, row_fields};
 pub use text::moment_text;

@@ -6,12 +6,12 @@ ghost use Rattle.ts_render.specs.Rows.{ArePurposes, IsAnchorRow, IsCommandRow, I
 ghost use Rattle.ts_render.specs.Rows.{AreSet, AreTold, IsRow, setting, words_of};
 ghost use Rattle.ts_render.specs.Texts.{dotted_form};
 
-use crate::outcome::{kind_word, outcome_of, outcome_text};
+use crate::outcome::{kind_word, outcome_of};
 use crate::text::{content_text, hex_or_none, moment_text, scope_text};
 use std::alloc::{AllocError, Global};
+use ts_command::{Command, Purposes};
 use ts_der::Oid;
 use ts_question::{AnchorRow, CommandRow, CrlRow};
-use ts_store::{Command, Purposes};
 
 /// What a trust anchor is for.
 #[derive(Debug, Drop)]
@@ -173,7 +173,7 @@ fn outcome_words(alloc: Global, row: &CommandRow<'_>) -> Result<Option<String>, 
         ≡ words_of row.now.outcome row.now.detail) }
 {
     match outcome_of(row.outcome, row.detail) {
-        Some(outcome) => Ok(Some(outcome_text(alloc, outcome)?)),
+        Some(outcome) => Ok(Some(format!(in alloc; "{outcome}")?)),
         None => Ok(None),
     }
 }

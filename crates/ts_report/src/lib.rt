@@ -11,8 +11,9 @@
 //!   place of a certificate, counted from the anchor's side, and the reason; `Host` is the reason
 //!   of a leaf that is for another host. Out of memory is the only error.
 //! - [`json`]: `IsJson` (`specs/Fields`): one JSON object, whose fields say the finding: whether it
-//!   is valid, the place, the reason and its section, the policies and whether revocation was looked
-//!   at; besides the names of the certificate and of the anchor, and the second line of the text.
+//!   is valid, the place, the reason and its section, the policies and whether revocation was
+//!   looked at; besides the names of the certificate and of the anchor, and the second line of the
+//!   text.
 //! - [`reason_line`]: a line of printable characters on a certificate of a chain and a reason, for
 //!   who has both from elsewhere. [`section`]: the RFC and its section that a reason is of.
 //!

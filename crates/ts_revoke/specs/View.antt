@@ -7,7 +7,7 @@ use Rattle.ts_cert.specs.CertView.{cert_in}
 use Rattle.ts_crl.specs.ListView.{crl_in}
 use Rattle.ts_revoke.specs.declared.crls.Crls.{Crls}
 use Rattle.ts_revoke.specs.declared.issuer.Issuer.{Issuer}
-use Rattle.ts_revoke.specs.declared.question.Question as lent
+use Rattle.ts_revoke.specs.declared.question.Question as borrowed
 use Rattle.ts_revoke.specs.Question.{Check, StatusQuestion}
 
 abbrev pub question_of : Crls → Cert → Issuer → ℤ → Check → Bool → StatusQuestion
@@ -24,5 +24,5 @@ question_of crls cert issuer moment good use_deltas =
     }
 
 -- the same, gathered
-abbrev pub question_in : lent.Question → Check → StatusQuestion
+abbrev pub question_in : borrowed.Question → Check → StatusQuestion
 question_in q good = question_of q.crls.now q.cert.now q.issuer.now q.moment good q.use_deltas

@@ -19,10 +19,10 @@ looked_up name (e ∷ es) = by_test (bytes_eq name e.0.items) (looked_up name es
     by_test true later = refl
     by_test false later = later
 
--- what is lent is what is there
-pub lent : {T U : Type 0} (f : T → U) (o : Option (Bor T)) → option_map (λ one. f one.now) o ≡ option_map f (option_copied o)
-lent f None = refl
-lent f (Some one) = refl
+-- what is borrowed is what is there
+pub borrowed : {T U : Type 0} (f : T → U) (o : Option (Bor T)) → option_map (λ one. f one.now) o ≡ option_map f (option_copied o)
+borrowed f None = refl
+borrowed f (Some one) = refl
 
 -- an entry of a name that is free goes last
 pub kept_last : (name : Vec ℕ Global) (kept : Item) (es : List (Vec ℕ Global × Item)) → thing_named (map entry_in es) name.items ≡ None

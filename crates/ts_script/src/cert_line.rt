@@ -1,12 +1,13 @@
 //! The `cert` line: the certificate that its words describe.
 
-ghost use Rattle.std.specs.Prelude.{◌≡◌, ◌++◌, ◌≤◌, length, IfOk, IfErr, MatchOption, OnOk, OnErr};
-ghost use Rattle.std.specs.Prelude.{is_ok, true, string_bytes, codes};
+ghost use Rattle.std.specs.Prelude.{◌≡◌, ◌++◌, ◌≤◌, ℕ, List, length, IfOk, IfErr, MatchOption};
+ghost use Rattle.std.specs.Prelude.{OnOk, OnErr, is_ok, true, string_bytes, codes};
 ghost use Rattle.std.specs.Fmt.{decimal};
 ghost use Rattle.ts_cert.specs.Reading.{certificate_of};
+ghost use Rattle.ts_make.specs.Making.{AnswersMade};
 ghost use Rattle.ts_script.specs.declared.script.LineFault.TheVariants.{Memory};
 ghost use Rattle.ts_script.specs.Words.{IsName};
-ghost use Rattle.ts_script.specs.Known.{known_in, thing_named};
+ghost use Rattle.ts_script.specs.Known.{Entry, known_in, thing_named};
 ghost use Rattle.ts_script.specs.CertLine.{IsCertLine, IsMade, IsKept, RefusesWords, IsCertSaid};
 ghost use Rattle.ts_script.specs.CertLine.{RefusesCert};
 
@@ -65,14 +66,12 @@ impl<'a> CertWords<'a> {
         })
     }
 
-    /// The octets of the certificate that the words say, where it can be read, unless its name is
-    /// taken.
-    fn make(&self, alloc: Global, known: &Symbols) -> Result<Vec<u8>, LineFault>
-        ensures made { IfOk result (λ octets. IsMade self.now octets.items) }
-        ensures short { IfOk result (λ octets. length octets.items ≤ 65536) }
-        ensures reads { IfOk result (λ octets. is_ok (certificate_of octets.items) ≡ true) }
-        ensures free { OnOk result (thing_named (known_in known.now) self.now.name.now ≡ None) }
-        ensures fault { IfErr result (RefusesWords (known_in known.now) self.now) }
+    /// What is made of the words: the octets of the certificate that they describe, or why there
+    /// are none.
+    fn try_make(&self, alloc: Global) -> Result<Result<Vec<u8>, MakeFault>, LineFault>
+        ensures made { IfOk result (λ made. (octets : List ℕ) × IsMade self.now octets
+            × AnswersMade made octets) }
+        ensures fault { (known : List Entry) → IfErr result (RefusesWords known self.now) }
     {
         let serial = number_of_octets(self.serial).ok_or(LineFault::Form)?;
         let from = moment_of(self.from).ok_or(LineFault::Form)?;
@@ -93,7 +92,19 @@ impl<'a> CertWords<'a> {
             signer: &signer,
             extensions: &extensions,
         };
-        let made = make_cert(alloc, &text);
+        Ok(make_cert(alloc, &text))
+    }
+
+    /// The octets of the certificate that the words say, where it can be read, unless its name is
+    /// taken.
+    fn make(&self, alloc: Global, known: &Symbols) -> Result<Vec<u8>, LineFault>
+        ensures made { IfOk result (λ octets. IsMade self.now octets.items) }
+        ensures short { IfOk result (λ octets. length octets.items ≤ 65536) }
+        ensures reads { IfOk result (λ octets. is_ok (certificate_of octets.items) ≡ true) }
+        ensures free { OnOk result (thing_named (known_in known.now) self.now.name.now ≡ None) }
+        ensures fault { IfErr result (RefusesWords (known_in known.now) self.now) }
+    {
+        let made = self.try_make(alloc)?;
         let is_taken = known.find(self.name).is_some();
         match made {
             Err(MakeFault::Memory) => Err(LineFault::Memory),

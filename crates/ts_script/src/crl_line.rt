@@ -1,13 +1,13 @@
 //! The `crl` line: the CRL that its words describe.
 
-ghost use Rattle.std.specs.Prelude.{◌≡◌, ◌++◌, ◌≤◌, length, IfOk, IfErr, MatchOption, OnOk, OnErr};
-ghost use Rattle.std.specs.Prelude.{string_bytes, codes};
+ghost use Rattle.std.specs.Prelude.{◌≡◌, ◌++◌, ◌≤◌, ℕ, List, length, IfOk, IfErr, MatchOption};
+ghost use Rattle.std.specs.Prelude.{OnOk, OnErr, string_bytes, codes};
 ghost use Rattle.std.specs.Fmt.{decimal};
 ghost use Rattle.ts_crl.specs.Table.{crl_of};
-ghost use Rattle.ts_make.specs.CrlMaking.{IsTaken};
+ghost use Rattle.ts_make.specs.CrlMaking.{AnswersCrl, IsTaken};
 ghost use Rattle.ts_script.specs.declared.script.LineFault.TheVariants.{Memory};
 ghost use Rattle.ts_script.specs.Words.{IsName};
-ghost use Rattle.ts_script.specs.Known.{known_in, thing_named};
+ghost use Rattle.ts_script.specs.Known.{Entry, known_in, thing_named};
 ghost use Rattle.ts_script.specs.CrlLine.{IsCrlLine, IsCrlMade, IsCrlKept, RefusesCrlWords};
 ghost use Rattle.ts_script.specs.CrlLine.{IsCrlSaid, RefusesCrl};
 
@@ -56,13 +56,11 @@ impl<'a> CrlWords<'a> {
         })
     }
 
-    /// The octets of the CRL that the words say, where it can be read, unless its name is taken.
-    fn make(&self, alloc: Global, known: &Symbols) -> Result<Vec<u8>, LineFault>
-        ensures made { IfOk result (λ octets. IsCrlMade self.now octets.items) }
-        ensures short { IfOk result (λ octets. length octets.items ≤ 4194304) }
-        ensures reads { IfOk result (λ octets. IsTaken (crl_of octets.items)) }
-        ensures free { OnOk result (thing_named (known_in known.now) self.now.name.now ≡ None) }
-        ensures fault { IfErr result (RefusesCrlWords (known_in known.now) self.now) }
+    /// What is made of the words: the octets of the CRL that they describe, or why there are none.
+    fn try_make(&self, alloc: Global) -> Result<Result<Vec<u8>, MakeFault>, LineFault>
+        ensures made { IfOk result (λ made. (octets : List ℕ) × IsCrlMade self.now octets
+            × AnswersCrl IsTaken made octets) }
+        ensures fault { (known : List Entry) → IfErr result (RefusesCrlWords known self.now) }
     {
         let this_update = moment_of(self.this_update).ok_or(LineFault::Form)?;
         let next_update = moment_of(self.next_update).ok_or(LineFault::Form)?;
@@ -82,7 +80,18 @@ impl<'a> CrlWords<'a> {
             uris: &fields.uris,
             critical: &fields.critical,
         };
-        let made = make_crl(alloc, &text);
+        Ok(make_crl(alloc, &text))
+    }
+
+    /// The octets of the CRL that the words say, where it can be read, unless its name is taken.
+    fn make(&self, alloc: Global, known: &Symbols) -> Result<Vec<u8>, LineFault>
+        ensures made { IfOk result (λ octets. IsCrlMade self.now octets.items) }
+        ensures short { IfOk result (λ octets. length octets.items ≤ 4194304) }
+        ensures reads { IfOk result (λ octets. IsTaken (crl_of octets.items)) }
+        ensures free { OnOk result (thing_named (known_in known.now) self.now.name.now ≡ None) }
+        ensures fault { IfErr result (RefusesCrlWords (known_in known.now) self.now) }
+    {
+        let made = self.try_make(alloc)?;
         let is_taken = known.find(self.name).is_some();
         match made {
             Err(MakeFault::Memory) => Err(LineFault::Memory),

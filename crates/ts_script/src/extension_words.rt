@@ -54,7 +54,7 @@ impl<'a> NameWord<'a> {
 
 impl NameWord<'_> {
     /// The name, borrowed.
-    fn lend(&self) -> NameText<'_>
+    fn borrow(&self) -> NameText<'_>
         ensures { name_in result ≡ name_of self.now }
     {
         match self {
@@ -155,10 +155,10 @@ impl<'a> ExtensionWord<'a> {
         use ExtensionWord as Word;
         let part = match self {
             Word::KeyUsage(bits) => return append_bits(bits, parts),
-            Word::SubjectAltName(name) => Text::SubjectAltName(name.lend()),
+            Word::SubjectAltName(name) => Text::SubjectAltName(name.borrow()),
             Word::BasicConstraints(length) => Text::BasicConstraints(*length),
-            Word::PermittedSubtree(base) => Text::PermittedSubtree(base.lend()),
-            Word::ExcludedSubtree(base) => Text::ExcludedSubtree(base.lend()),
+            Word::PermittedSubtree(base) => Text::PermittedSubtree(base.borrow()),
+            Word::ExcludedSubtree(base) => Text::ExcludedSubtree(base.borrow()),
             Word::DistributionPoint(uri) => Text::DistributionPoint(uri),
             Word::Policy(oid) => Text::Policy(oid.as_ref()),
             Word::PolicyMapping { issuer, subject } => Text::PolicyMapping {

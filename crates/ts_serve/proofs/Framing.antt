@@ -12,8 +12,8 @@ use Rattle.ts_synod.specs.Log.{next_position, prefix}
 use Rattle.ts_synod.specs.Node as world
 use Rattle.ts_synod.specs.Proposer.{ProposerStep}
 use Rattle.ts_synod.specs.Store.{Settling, Store, settling}
-use Rattle.ts_store.specs.declared.command.Command.{Command}
-use Rattle.ts_store.specs.declared.outcome.Outcome.{Outcome}
+use Rattle.ts_command.specs.declared.command.Command.{Command}
+use Rattle.ts_command.specs.declared.outcome.Outcome.{Outcome}
 use Rattle.ts_question.specs.Question.{StoreQuestion}
 use Rattle.ts_question.specs.Reply.{NumberedReply}
 use Rattle.ts_node.specs.declared.node.Node.{Node}
@@ -29,7 +29,7 @@ use Rattle.ts_node.specs.Call.{IsCall}
 use Rattle.ts_node.specs.Turn.{IsTurn}
 use Rattle.ts_node.specs.Inputs.{IsInput, SaysReply}
 use Rattle.ts_node.specs.Node.{Rewrites, config, facts, is_broken, volatile}
-use Rattle.ts_store.specs.Octets.{octets_of}
+use Rattle.ts_command.specs.Octets.{octets_of}
 use Rattle.ts_serve.specs.Replies.{HasFrame, IsWithin}
 use Rattle.ts_serve.specs.Turn.{Hands}
 

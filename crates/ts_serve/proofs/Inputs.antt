@@ -5,10 +5,10 @@ use Rattle.std.specs.Prelude.{nat_le, nat_lt}
 use Rattle.ts_synod.specs.declared.message.Body.{Body}
 use Rattle.ts_synod.specs.declared.message.Body.TheVariants.{Accept, Accepted, Ask, Busy, Give, Prepare, Promise}
 use Rattle.ts_synod.specs.declared.message.Message.{Message}
-use Rattle.ts_store.specs.declared.command.Command.{Command}
+use Rattle.ts_command.specs.declared.command.Command.{Command}
 use Rattle.ts_record.specs.Facts.{IsBallot, IsPosition}
 use Rattle.ts_node.specs.Inputs.{BodyFits}
-use Rattle.ts_store.specs.Octets.{octets_of}
+use Rattle.ts_command.specs.Octets.{octets_of}
 use Rattle.ts_serve.proofs.Commands.{command_short}
 use Rattle.ts_codec.specs.Ranges.{is_ballot, is_node_number, is_position}
 use Rattle.ts_codec.proofs.Truths.{first_true, second_true}

@@ -1,8 +1,8 @@
 -- The frame that says a node's reply.
 use Rattle.std.specs.Prelude.{◌≡◌, ◌≤◌, ◌<◌, Bool, true, false, List, [], Result, Ok, Err}
 use Rattle.ts_synod.specs.declared.message.Message.{Message}
-use Rattle.ts_store.specs.declared.command.Command.{Command}
-use Rattle.ts_store.specs.declared.outcome.Outcome.{Outcome}
+use Rattle.ts_command.specs.declared.command.Command.{Command}
+use Rattle.ts_command.specs.declared.outcome.Outcome.{Outcome}
 use Rattle.ts_question.specs.Question.{StoreQuestion, is_position_if_any}
 use Rattle.ts_question.specs.Reply.{NumberedReply, numbered_reply}
 use Rattle.ts_question.specs.declared.reply.Reply.TheVariants as said

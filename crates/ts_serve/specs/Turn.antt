@@ -4,8 +4,8 @@ use Rattle.std.specs.Prelude.{◌≡◌, ◌||◌, List, [], ◌∷◌, ◌++◌
 use Rattle.std.specs.Prelude.{Bool, true, false, Result}
 use Rattle.ts_disk.specs.Disk.{State}
 use Rattle.ts_synod.specs.Store.{Store}
-use Rattle.ts_store.specs.declared.command.Command.{Command}
-use Rattle.ts_store.specs.declared.outcome.Outcome.{Outcome}
+use Rattle.ts_command.specs.declared.command.Command.{Command}
+use Rattle.ts_command.specs.declared.outcome.Outcome.{Outcome}
 use Rattle.ts_question.specs.Question.{StoreQuestion}
 use Rattle.ts_question.specs.Reply.{NumberedReply}
 use Rattle.ts_node.specs.declared.input.Input.{Input}
@@ -17,7 +17,7 @@ use Rattle.ts_node.specs.declared.turn.StagedFacts.{StagedFacts}
 use Rattle.ts_node.specs.Ahead.{IsAhead, IsKept, IsStage}
 use Rattle.ts_node.specs.Call.{IsCall}
 use Rattle.ts_node.specs.Node.{IsSound, is_broken}
-use Rattle.ts_store.specs.Octets.{octets_of}
+use Rattle.ts_command.specs.Octets.{octets_of}
 use Rattle.ts_synod.specs.declared.fault.NodeFault.TheVariants.{Memory}
 use Rattle.ts_wire.specs.declared.frame.Frame.{Frame}
 use Rattle.ts_wire.specs.declared.frame.Frame.TheVariants as frames

@@ -5,7 +5,7 @@ ghost use Rattle.ts_question.specs.Question.{StoreQuestion};
 ghost use Rattle.ts_node.specs.Machine.{store_of};
 ghost use Rattle.ts_node.specs.Ahead.{IsAhead};
 ghost use Rattle.ts_node.specs.Node.{IsSound};
-ghost use Rattle.ts_store.specs.Octets.{octets_of as command_octets};
+ghost use Rattle.ts_command.specs.Octets.{octets_of as command_octets};
 ghost use Rattle.ts_wire.specs.Frames.{FrameFits};
 ghost use Rattle.ts_serve.specs.Requests.{is_request};
 ghost use Rattle.ts_serve.specs.Text.{fault_frames, text};
@@ -15,10 +15,10 @@ ghost use Rattle.ts_serve.specs.Answering.{AnswersFrame};
 use crate::sending::octets_of;
 use crate::server::Server;
 use std::alloc::{AllocError, Global};
+use ts_command::{Command, Outcome};
 use ts_disk::Disk;
 use ts_node::Machine;
 use ts_question::{Answer, Question};
-use ts_store::{Command, Outcome};
 use ts_wire::{Frame, FrameFault};
 
 /// Why a frame has no answer that can be handed on.

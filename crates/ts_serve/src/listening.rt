@@ -4,7 +4,7 @@ ghost use Rattle.std.specs.Prelude.{◌≡◌, List, IfErr};
 ghost use Rattle.ts_question.specs.Question.{StoreQuestion};
 ghost use Rattle.ts_node.specs.Machine.{store_of};
 ghost use Rattle.ts_node.specs.Node.{IsSound};
-ghost use Rattle.ts_store.specs.Octets.{octets_of};
+ghost use Rattle.ts_command.specs.Octets.{octets_of};
 ghost use Rattle.ts_wire.specs.declared.frame.Frame.{Frame as Request};
 ghost use Rattle.ts_serve.specs.Turn.{ServerTurn};
 ghost use Rattle.ts_serve.specs.Stream.{Run};
@@ -15,10 +15,10 @@ use crate::server::Server;
 use crate::serving::serve;
 use std::io::BufWriter;
 use std::net::{TcpListener, TcpStream};
+use ts_command::{Command, Outcome};
 use ts_disk::Disk;
 use ts_node::Machine;
 use ts_question::{Answer, Question};
-use ts_store::{Command, Outcome};
 
 /// Serves one connection, whatever becomes of it. A client that neither sends nor reads for
 /// [`LONGEST_WAIT`](crate::LONGEST_WAIT) seconds loses it, so that it does not keep others out.

@@ -6,7 +6,7 @@ ghost use Rattle.ts_serve.specs.inside.Outbox.{IsOutbox};
 
 use std::alloc::{AllocError, Global};
 use std::marker::Model;
-use ts_store::Command;
+use ts_command::Command;
 use ts_synod::Message;
 use ts_wire::Frame;
 
@@ -23,7 +23,7 @@ pub struct Outbox {
 impl Model for Outbox {
     ghost use Rattle.std.specs.Prelude.{List};
     ghost use Rattle.ts_synod.specs.declared.message.Message.{Message};
-    ghost use Rattle.ts_store.specs.declared.command.Command.{Command};
+    ghost use Rattle.ts_command.specs.declared.command.Command.{Command};
 
     ghost Value = { List (Message Command) };
 

@@ -4,7 +4,7 @@ ghost use Rattle.std.specs.Prelude.{◌≡◌, ◌++◌, List, ℕ, Some, [], If
 ghost use Rattle.ts_question.specs.Question.{StoreQuestion};
 ghost use Rattle.ts_node.specs.Machine.{store_of};
 ghost use Rattle.ts_node.specs.Node.{IsSound};
-ghost use Rattle.ts_store.specs.Octets.{octets_of};
+ghost use Rattle.ts_command.specs.Octets.{octets_of};
 ghost use Rattle.ts_serve.specs.Turn.{ServerTurn};
 ghost use Rattle.ts_serve.specs.Stream.{IsServedSomehow};
 
@@ -16,10 +16,10 @@ use crate::serving::{READ_LIMIT, serve};
 use std::alloc::Global;
 use std::io::{ErrorKind, Read};
 use std::net::{Net, OpenStream, Shutdown};
+use ts_command::{Command, Outcome};
 use ts_disk::Disk;
 use ts_node::Machine;
 use ts_question::{Answer, Question};
-use ts_store::{Command, Outcome};
 
 /// The most octets that one read takes.
 const PIECE: usize = 8192;

@@ -7,10 +7,10 @@ ghost use Rattle.ts_wire.specs.declared.frame.Frame.TheVariants.{Answer as Answe
 ghost use Rattle.ts_serve.specs.Replies.{HasFrame, answer_to, is_failure, messages_of, reply_frame};
 
 use std::alloc::Global;
+use ts_command::{Command, Outcome};
 use ts_node::{Output, Reply};
 use ts_question::{Answer, Reply as Said};
 use ts_record::Progress;
-use ts_store::{Command, Outcome};
 use ts_synod::{Message, NodeFault};
 use ts_wire::Frame;
 

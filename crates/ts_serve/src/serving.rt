@@ -4,7 +4,7 @@ ghost use Rattle.std.specs.Prelude.{◌≡◌, ◌≢◌, List, Option, [], IfSo
 ghost use Rattle.ts_question.specs.Question.{StoreQuestion};
 ghost use Rattle.ts_node.specs.Machine.{store_of};
 ghost use Rattle.ts_node.specs.Node.{IsSound};
-ghost use Rattle.ts_store.specs.Octets.{octets_of};
+ghost use Rattle.ts_command.specs.Octets.{octets_of};
 ghost use Rattle.ts_wire.specs.Stream.{IsPartial, Splits};
 ghost use Rattle.ts_wire.specs.declared.fault.FrameFault.{FrameFault};
 ghost use Rattle.ts_wire.specs.declared.frame.Frame.{Frame as Request};
@@ -16,10 +16,10 @@ use crate::fault::ServeFault;
 use crate::sending::{flush, refuse};
 use crate::server::Server;
 use std::io::{ErrorKind, Read, Write};
+use ts_command::{Command, Outcome};
 use ts_disk::Disk;
 use ts_node::Machine;
 use ts_question::{Answer, Question};
-use ts_store::{Command, Outcome};
 use ts_wire::{Feed, FeedError};
 
 /// The most reads of one stream.

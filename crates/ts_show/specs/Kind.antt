@@ -4,8 +4,8 @@ use Rattle.ts_cert.specs.Certificate.{Certificate}
 use Rattle.ts_cert.specs.Encoding.{IsCertificate}
 use Rattle.ts_crl.specs.List.{CertificateList}
 use Rattle.ts_crl.specs.Encoding.{IsCertificateList}
-use Rattle.ts_store.specs.declared.command.Command.{Command}
-use Rattle.ts_store.specs.Commands.{command_encoding, CommandFits}
+use Rattle.ts_command.specs.declared.command.Command.{Command}
+use Rattle.ts_command.specs.Commands.{command_encoding, CommandFits}
 use Rattle.ts_question.specs.Question.{StoreQuestion, question_encoding, QuestionFits}
 use Rattle.ts_show.specs.declared.kind.Kind.{Kind}
 use Rattle.ts_show.specs.declared.kind.Kind.TheVariants as kind

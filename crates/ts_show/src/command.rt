@@ -4,8 +4,8 @@ use crate::lines::Lines;
 use crate::name::{name_line, oid_line};
 use std::alloc::AllocError;
 use ts_cert::Cert;
+use ts_command::{Command, Purposes};
 use ts_crl::Crl;
-use ts_store::{Command, Purposes};
 
 /// The word for the kind of a command.
 pub(crate) fn kind_word(command: &Command) -> &'static str {

@@ -4,7 +4,8 @@ use crate::lines::Lines;
 use crate::name::write_oid;
 use crate::value::value_lines;
 use std::alloc::AllocError;
-use ts_ext::{Ext, Extension, Extensions, Holder, Known};
+use ts_ext::{Ext, Holder, Known};
+use ts_extensions::{Extension, Extensions};
 
 /// The name of an extension (RFC 5280 4.2.1, 5.2, 5.3).
 fn name_of(known: Known) -> &'static str {

@@ -6,9 +6,9 @@ ghost use Rattle.ts_show.specs.Kind.{AreQuestion, BeginSequence, IsKind, word_of
 
 use std::alloc::{AllocError, Global};
 use ts_cert::Cert;
+use ts_command::Command;
 use ts_crl::Crl;
 use ts_question::Question;
-use ts_store::Command;
 
 /// What octets hold.
 #[derive(Clone, Copy, Debug, PartialEq, Eq)]

@@ -4,10 +4,10 @@ use crate::command::kind_word;
 use crate::line::Line;
 use crate::lines::Lines;
 use std::alloc::AllocError;
+use ts_command::Command;
 use ts_disk::MemDisk;
 use ts_journal::{Look, look_at};
 use ts_record::{Record, RecordFault};
-use ts_store::Command;
 use ts_synod::Fact;
 
 /// The line of a disk: the generation of one that is live; else that it is too short for a record,

@@ -19,9 +19,9 @@ use crate::record::record_lines;
 use sha2::{Digest, Sha256};
 use std::alloc::{AllocError, Global};
 use ts_cert::Cert;
+use ts_command::Command;
 use ts_crl::Crl;
 use ts_question::Question;
-use ts_store::Command;
 
 /// The line of the SHA-256 digest by which a trust anchor and a CRL are named.
 fn id_line(alloc: Global, octets: &[u8]) -> Result<Line, AllocError>

@@ -13,12 +13,11 @@ use crate::response::Response;
 use crate::scene::Scene;
 use std::alloc::{AllocError, Global};
 use ts_access::{Key, may};
+use ts_command::{Command, Outcome};
 use ts_form::{command_id_of, form_pairs};
 use ts_hmac::is_same_tag;
 use ts_http::Request;
 use ts_json::{Member, Plain};
-use ts_render::outcome_text;
-use ts_store::{Command, Outcome};
 use ts_wire::Frame;
 
 /// The first key that has the secret.
@@ -102,7 +101,7 @@ fn known(
     outcome: Option<Outcome>,
 ) -> Result<Response, AllocError> {
     let outcome = match outcome {
-        Some(outcome) => Some(outcome_text(alloc, outcome)?),
+        Some(outcome) => Some(format!(in alloc; "{outcome}")?),
         None => None,
     };
     let mut members = Vec::new(alloc);

@@ -5,8 +5,8 @@ ghost use Rattle.ts_wire.specs.Frames.{frame_encoding};
 ghost use Rattle.ts_wire.specs.declared.frame.Frame.TheVariants as frames;
 
 use std::alloc::{AllocError, Global};
+use ts_command::Command;
 use ts_question::Question;
-use ts_store::Command;
 use ts_wire::{Frame, write_frame};
 
 /// The frame that asks how many commands the node knows.

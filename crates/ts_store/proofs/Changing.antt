@@ -11,17 +11,17 @@ use Rattle.ts_crl.specs.Profile.{is_delta}
 use Rattle.ts_crl.specs.Table.{crl_of}
 use Rattle.ts_store.specs.Anchors.{add_anchor}
 use Rattle.ts_store.specs.Changes.{Becomes}
-use Rattle.ts_store.specs.Commands.{id_of}
+use Rattle.ts_command.specs.Commands.{id_of}
 use Rattle.ts_store.specs.Ids.{first_of, with_first, without}
 use Rattle.ts_store.specs.Lists.{stored_crl, put_list}
 use Rattle.ts_store.specs.Store.{StoreState, make, step_by, step}
 use Rattle.ts_store.specs.Tables.{Tables, with_anchors, with_complete, with_deltas, load_as, load_crl, change}
 use Rattle.ts_store.specs.declared.anchor.TrustAnchor.{TrustAnchor}
-use Rattle.ts_store.specs.declared.command.Command.{Command}
-use Rattle.ts_store.specs.declared.command.Command.TheVariants.{AddAnchor}
+use Rattle.ts_command.specs.declared.command.Command.{Command}
+use Rattle.ts_command.specs.declared.command.Command.TheVariants.{AddAnchor}
 use Rattle.ts_store.specs.declared.ids.FirstCommand.{FirstCommand}
-use Rattle.ts_store.specs.declared.outcome.Outcome.TheVariants.{Applied, Refused}
-use Rattle.ts_store.specs.declared.outcome.Refusal.{Refusal}
+use Rattle.ts_command.specs.declared.outcome.Outcome.TheVariants.{Applied, Refused}
+use Rattle.ts_command.specs.declared.outcome.Refusal.{Refusal}
 use Rattle.ts_store.specs.declared.stored.StoredCrl.{StoredCrl}
 use Rattle.ts_store.proofs.Held.{is-free, is-settled, some-held}
 

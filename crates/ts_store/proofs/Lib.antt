@@ -3,5 +3,3 @@ pub mod Slots
 pub mod Held
 mod Changing
 pub mod Steps
-pub mod OneEncoding
-pub mod Encoded

@@ -10,8 +10,8 @@ use Rattle.ts_cert.specs.declared.owned.OwnedCertFault.TheVariants.{Memory, Unre
 use Rattle.ts_store.specs.Anchors.{place_of, new_refusal, add_unless, add_anchor, refuse_if, with_purposes, set_at, set_purposes}
 use Rattle.ts_store.specs.Changes.{Becomes}
 use Rattle.ts_store.specs.declared.anchor.TrustAnchor.{TrustAnchor}
-use Rattle.ts_store.specs.declared.outcome.Refusal.{Refusal}
-use Rattle.ts_store.specs.declared.outcome.Refusal.TheVariants.{Malformed}
+use Rattle.ts_command.specs.declared.outcome.Refusal.{Refusal}
+use Rattle.ts_command.specs.declared.outcome.Refusal.TheVariants.{Malformed}
 
 -- a place after others
 abbrev pub behind : ℕ → Option ℕ → Option ℕ

@@ -5,8 +5,8 @@ use Rattle.std.specs.List.{find}
 use Rattle.ts_store.specs.Anchors.{refuse_if}
 use Rattle.ts_store.specs.Changes.{Becomes}
 use Rattle.ts_store.specs.Lists.{list_in, is_newer, has_slot, replace_slot, put_by, put_list, place_by}
-use Rattle.ts_store.specs.declared.outcome.Refusal.{Refusal}
-use Rattle.ts_store.specs.declared.outcome.Refusal.TheVariants.{OlderCrl, StoreFull}
+use Rattle.ts_command.specs.declared.outcome.Refusal.{Refusal}
+use Rattle.ts_command.specs.declared.outcome.Refusal.TheVariants.{OlderCrl, StoreFull}
 use Rattle.ts_store.specs.declared.stored.StoredCrl.{StoredCrl}
 
 none-some : {A : Type 0} (x : A) → (let n : Option A = None in n ≡ Some x) → ⊥

@@ -5,14 +5,14 @@ use Rattle.std.specs.declared.cmp.Ordering.TheVariants.{Less, Equal, Greater}
 use Rattle.std.specs.Cmp.Lexicographic.{slice_cmp}
 use Rattle.std.specs.Ordering.{nat_cmp, is_eq}
 use Rattle.std.proofs.lemmas.Map.Lookups.{exact_bytes}
-use Rattle.ts_store.specs.Commands.{id_of}
+use Rattle.ts_command.specs.Commands.{id_of}
 use Rattle.ts_store.specs.Ids.{first_of}
 use Rattle.ts_store.specs.Store.{StoreState, make, step_by, step, after}
 use Rattle.ts_store.specs.Tables.{Tables, change}
 use Rattle.ts_store.specs.declared.ids.FirstCommand.{FirstCommand}
-use Rattle.ts_store.specs.declared.command.Command.{Command}
-use Rattle.ts_store.specs.declared.outcome.Outcome.TheVariants.{Applied, Refused}
-use Rattle.ts_store.specs.declared.outcome.Refusal.{Refusal}
+use Rattle.ts_command.specs.declared.command.Command.{Command}
+use Rattle.ts_command.specs.declared.outcome.Outcome.TheVariants.{Applied, Refused}
+use Rattle.ts_command.specs.declared.outcome.Refusal.{Refusal}
 use Rattle.ts_store.proofs.Held.{none-some, is-held, is-kept}
 
 pub unchanged : (position : ℕ) (command : Command) (state : StoreState) → ((step position command state).outcome ≡ Applied) ⊎ ((step position command state).state.tables ≡ state.tables)

@@ -6,9 +6,9 @@ use Rattle.std.specs.Str.{bytes_eq}
 use Rattle.sha2.specs.Sha256.{sha256}
 use Rattle.ts_cert.specs.Table.{certificate_fault}
 use Rattle.ts_store.specs.declared.anchor.TrustAnchor.{TrustAnchor}
-use Rattle.ts_store.specs.declared.outcome.Refusal.{Refusal}
-use Rattle.ts_store.specs.declared.outcome.Refusal.TheVariants.{AnchorThere, NoAnchor, Malformed}
-use Rattle.ts_store.specs.declared.outcome.Refusal.TheVariants.{StoreFull}
+use Rattle.ts_command.specs.declared.outcome.Refusal.{Refusal}
+use Rattle.ts_command.specs.declared.outcome.Refusal.TheVariants.{AnchorThere, NoAnchor, Malformed}
+use Rattle.ts_command.specs.declared.outcome.Refusal.TheVariants.{StoreFull}
 
 -- this refusal where a test holds, else what follows
 abbrev pub refuse_if : {A : Type 0} → Bool → Refusal → Result A Refusal → Result A Refusal

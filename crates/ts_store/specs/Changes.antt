@@ -1,6 +1,6 @@
 -- What a call that may refuse did to a table.
 use Rattle.std.specs.Prelude.{◌≡◌, Option, Some, None, Result, Ok, Err}
-use Rattle.ts_store.specs.declared.outcome.Refusal.{Refusal}
+use Rattle.ts_command.specs.declared.outcome.Refusal.{Refusal}
 
 -- the table is what the rule makes of it; or the rule's refusal is answered, and the table is as
 -- before

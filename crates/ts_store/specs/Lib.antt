@@ -1,10 +1,6 @@
 pub mod Anchors
 pub mod Changes
-pub mod Commands
 pub mod Ids
 pub mod Lists
-pub mod Octets
-pub mod Purposes
-pub mod Reading
 pub mod Store
 pub mod Tables

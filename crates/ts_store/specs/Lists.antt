@@ -10,8 +10,8 @@ use Rattle.ts_crl.specs.OwnedView.{list_of}
 use Rattle.ts_crl.specs.Slots.{is_same_slot}
 use Rattle.ts_crl.specs.Values.{crl_number}
 use Rattle.ts_store.specs.Anchors.{refuse_if}
-use Rattle.ts_store.specs.declared.outcome.Refusal.{Refusal}
-use Rattle.ts_store.specs.declared.outcome.Refusal.TheVariants.{OlderCrl, StoreFull, NoCrl}
+use Rattle.ts_command.specs.declared.outcome.Refusal.{Refusal}
+use Rattle.ts_command.specs.declared.outcome.Refusal.TheVariants.{OlderCrl, StoreFull, NoCrl}
 use Rattle.ts_store.specs.declared.stored.StoredCrl.{StoredCrl}
 
 -- what is kept of octets that are a list: they, and their SHA-256

@@ -1,13 +1,13 @@
 -- The trust store: a fold over commands, one step and its outcome.
 use Rattle.std.specs.Prelude.{ℕ, suc, List, [], ◌∷◌, Option, Some, None, Result, Ok, Err}
-use Rattle.ts_store.specs.Commands.{id_of}
+use Rattle.ts_command.specs.Commands.{id_of}
 use Rattle.ts_store.specs.Ids.{first_of, with_first}
 use Rattle.ts_store.specs.Tables.{Tables, no_tables, change}
-use Rattle.ts_store.specs.declared.command.Command.{Command}
+use Rattle.ts_command.specs.declared.command.Command.{Command}
 use Rattle.ts_store.specs.declared.ids.FirstCommand.{FirstCommand}
-use Rattle.ts_store.specs.declared.outcome.Outcome.{Outcome}
-use Rattle.ts_store.specs.declared.outcome.Outcome.TheVariants.{Applied, Repeated, Refused}
-use Rattle.ts_store.specs.declared.outcome.Refusal.{Refusal}
+use Rattle.ts_command.specs.declared.outcome.Outcome.{Outcome}
+use Rattle.ts_command.specs.declared.outcome.Outcome.TheVariants.{Applied, Repeated, Refused}
+use Rattle.ts_command.specs.declared.outcome.Refusal.{Refusal}
 
 -- the tables; of each id so far the first command that has it, by its position and outcome; the
 -- number of commands so far, whatever their outcomes

@@ -8,12 +8,12 @@ use Rattle.ts_crl.specs.Table.{crl_of}
 use Rattle.ts_store.specs.Anchors.{add_anchor, withdraw_anchor, set_purposes}
 use Rattle.ts_store.specs.Lists.{stored_crl, put_list, drop_list}
 use Rattle.ts_store.specs.declared.anchor.TrustAnchor.{TrustAnchor}
-use Rattle.ts_store.specs.declared.command.Command.{Command}
-use Rattle.ts_store.specs.declared.command.Command.TheVariants.{AddAnchor, WithdrawAnchor, LoadCrl}
-use Rattle.ts_store.specs.declared.command.Command.TheVariants.{DropCrl, SetPurposes, Noop}
-use Rattle.ts_store.specs.declared.outcome.Refusal.{Refusal}
-use Rattle.ts_store.specs.declared.outcome.Refusal.TheVariants.{Malformed, CriticalCrlExtension}
-use Rattle.ts_store.specs.declared.outcome.Refusal.TheVariants.{DeltaCrl, RelativeName, Indirect}
+use Rattle.ts_command.specs.declared.command.Command.{Command}
+use Rattle.ts_command.specs.declared.command.Command.TheVariants.{AddAnchor, LoadCrl, DropCrl}
+use Rattle.ts_command.specs.declared.command.Command.TheVariants.{WithdrawAnchor, SetPurposes, Noop}
+use Rattle.ts_command.specs.declared.outcome.Refusal.{Refusal}
+use Rattle.ts_command.specs.declared.outcome.Refusal.TheVariants.{Malformed, CriticalCrlExtension}
+use Rattle.ts_command.specs.declared.outcome.Refusal.TheVariants.{DeltaCrl, RelativeName, Indirect}
 use Rattle.ts_store.specs.declared.stored.StoredCrl.{StoredCrl}
 
 -- trust anchors; complete lists and deltas, each with slots of its own

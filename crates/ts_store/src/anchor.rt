@@ -1,7 +1,7 @@
 //! A trust anchor.
 
-use crate::purposes::Purposes;
 use ts_cert::OwnedCert;
+use ts_command::Purposes;
 
 /// A trust anchor: the SHA-256 of its certificate's octets, the certificate, from which name and
 /// key are taken, and the purposes for which it may be used.

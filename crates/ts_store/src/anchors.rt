@@ -10,12 +10,11 @@ ghost use Rattle.ts_store.specs.Changes.{Becomes};
 ghost use Rattle.ts_store.specs.declared.anchor.TrustAnchor.{TrustAnchor as Anchor};
 
 use crate::anchor::TrustAnchor;
-use crate::outcome::Refusal;
-use crate::purposes::Purposes;
 use sha2::{Digest, Sha256};
 use std::alloc::{AllocError, Global};
 use std::marker::Model;
 use ts_cert::{OwnedCert, OwnedCertFault};
+use ts_command::{Purposes, Refusal};
 use ts_octets::Octets;
 
 /// How many trust anchors there may be.

@@ -5,10 +5,10 @@ ghost use Rattle.std.specs.Ordering.{nat_cmp};
 ghost use Rattle.std.specs.Prelude.{◌≡◌, [], is_some, true, OnOk, OnErr};
 ghost use Rattle.ts_store.specs.Ids.{first_of, with_first, without};
 
-use crate::outcome::Outcome;
 use std::alloc::{AllocError, Global};
 use std::collections::BTreeMap;
 use std::marker::Model;
+use ts_command::Outcome;
 
 /// The first command of an id: its position, and what it came to.
 #[derive(Clone, Copy, Debug, PartialEq, Eq)]

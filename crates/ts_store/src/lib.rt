@@ -1,37 +1,13 @@
-//! A trust store: a fold over commands, each of which a client asks for under an id that it chose.
+//! A trust store: a fold over commands (`ts_command`).
 //!
 //! ```text
-//! let command = Command::add_anchor(id, certificate)?;        // TooLong above the limits
-//! let octets = command.octets(alloc)?;                         // its one encoding
-//! // Some, exactly where the octets are one whole command
-//! let again = Command::read(alloc, &octets)?;
-//!
 //! let mut store = Store::new(alloc);
 //! // Applied, Repeated(position) or Refused(why)
 //! let outcome = store.apply(1, &command)?;
 //! ```
 //!
-//! A command is 16 octets of id, an octet of the kind and its fields, numbers being big endian: 01
-//! a certificate after four octets of its length; 02 the 32 octets of an anchor's id; 03 a CRL
-//! after four octets of its length; 04 the 32 octets of a CRL's id; 05 an anchor's id and its
-//! purposes (`00` for any; else `01`, an octet of their number, and the contents octets of each
-//! after an octet of their length, strictly ascending); 06 nothing.
+//! A CRL is in memory once: the tables share the octets of the commands (`ts_octets`).
 //!
-//! Copies of a command share the octets of its certificate or CRL (`ts_octets`), and so do the
-//! tables: a CRL is in memory once, however many places keep it.
-//!
-//! - [`Command::add_anchor`], [`Command::load_crl`], [`CertificateOctets::new`],
-//!   [`CrlOctets::new`]: `TooLong` exactly above the limit.
-//! - [`Purposes::new`]: `None` exactly where the list is longer than 16 or not strictly ascending.
-//! - [`Command::read`]: `exact`: the result by the definition of reading (`specs/Reading`);
-//!   `found`, `only`: a command is read exactly from the octets that are its encoding.
-//! - [`Command::octets`]: `encoded`: the encoding; `fits`: each command has one.
-//! - `impl ts_synod::Command`, `impl ts_synod::Codec` for [`Command`]: a command is one of the
-//!   protocol, and is kept in a record by its one encoding (`specs/Octets`).
-//! - [`laws::one_encoding`]: no two commands have one encoding, and no two lists of octets are one
-//!   command's.
-//! - [`laws::which_fit`]: the test by which a command has octets in a record says exactly which
-//!   commands have an encoding.
 //! - [`Anchors::add`], [`Anchors::withdraw`], [`Anchors::set_purposes`]: the table after the
 //!   command, or its refusal, by the definition (`specs/Anchors`); at an `Err` nothing changes.
 //! - [`place_of_anchor`], [`place_of_crl`], [`place_of_slot`], [`digest`]: where an anchor or CRL
@@ -66,29 +42,17 @@
 
 mod anchor;
 mod anchors;
-mod codec;
-mod command;
 mod ids;
-mod kinds;
 pub mod laws;
 mod lists;
-mod outcome;
-mod purposes;
-mod reading;
 mod store;
 mod stored;
 mod tables;
-mod values;
-mod writing;
 
 pub use anchor::TrustAnchor;
 pub use anchors::{Anchors, MAX_ANCHORS, digest, place_of_anchor};
-pub use command::Command;
 pub use ids::FirstCommand;
 pub use lists::{Crls, MAX_CRLS, place_of_crl, place_of_slot};
-pub use outcome::{Outcome, Refusal};
-pub use purposes::{MAX_PURPOSES, Purposes};
 pub use store::Store;
 pub use stored::StoredCrl;
 pub use tables::Tables;
-pub use values::{CertificateOctets, CrlOctets, TooLong};

@@ -9,10 +9,10 @@ ghost use Rattle.ts_store.specs.Changes.{Becomes};
 ghost use Rattle.ts_store.specs.Lists.{list_in, is_newer as is_newer_list, has_slot as has_slot_of};
 ghost use Rattle.ts_store.specs.Lists.{has_id, put_list, place_by, drop_list};
 
-use crate::outcome::Refusal;
 use crate::stored::StoredCrl;
 use std::alloc::{AllocError, Global};
 use std::marker::Model;
+use ts_command::Refusal;
 use ts_crl::{Crl, is_lower_number};
 
 /// How many complete CRLs there may be, and how many delta CRLs.
@@ -50,8 +50,8 @@ impl Crls {
         self.lists.as_slice()
     }
 
-    /// Adds a CRL as the last one, or replaces the one of its slot, if that is older; or answers why
-    /// not.
+    /// Adds a CRL as the last one, or replaces the one of its slot, if that is older; or answers
+    /// why not.
     ///
     /// # Errors
     ///

@@ -5,13 +5,12 @@ ghost use Rattle.ts_store.specs.Ids.{first_of};
 ghost use Rattle.ts_store.specs.Store.{step, empty};
 
 use crate::anchor::TrustAnchor;
-use crate::command::Command;
 use crate::ids::{FirstCommand, Ids};
-use crate::outcome::Outcome;
 use crate::stored::StoredCrl;
 use crate::tables::Tables;
 use std::alloc::{AllocError, Global};
 use std::marker::Model;
+use ts_command::{Command, Outcome};
 
 /// A trust store after commands: its tables, the first command of each id, and how many commands
 /// there were. What one more command costs does not grow with their number, but for the look-up of

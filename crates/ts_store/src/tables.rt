@@ -7,12 +7,11 @@ ghost use Rattle.ts_store.specs.Tables.{no_tables, change, load_crl, drop_crl, r
 
 use crate::anchor::TrustAnchor;
 use crate::anchors::{Anchors, digest};
-use crate::command::Command;
 use crate::lists::Crls;
-use crate::outcome::Refusal;
 use crate::stored::StoredCrl;
 use std::alloc::{AllocError, Global};
 use std::marker::Model;
+use ts_command::{Command, Refusal};
 use ts_crl::{CrlFault, OwnedCrl, OwnedCrlFault};
 use ts_octets::Octets;
 

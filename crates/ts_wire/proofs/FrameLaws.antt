@@ -14,25 +14,26 @@ use Rattle.ts_codec.proofs.Values.{node_part, position_part, prefix_part, ballot
 use Rattle.ts_synod.specs.declared.message.Body.{Body}
 use Rattle.ts_synod.specs.declared.message.Body.TheVariants.{Prepare, Promise, Busy, Accept, Accepted, Ask, Give}
 use Rattle.ts_synod.specs.declared.message.Vote.{Vote}
-use Rattle.ts_store.specs.Commands.{command_encoding as command_octets, CommandFits}
-use Rattle.ts_store.specs.declared.command.Command.{Command}
-use Rattle.ts_store.specs.declared.outcome.Outcome.{Outcome as Came}
-use Rattle.ts_store.specs.declared.outcome.Outcome.TheVariants.{Applied, Repeated, Refused}
-use Rattle.ts_store.specs.declared.outcome.Refusal.{Refusal}
-use Rattle.ts_store.specs.declared.outcome.Refusal.TheVariants.{AnchorThere, NoAnchor, Malformed, OlderCrl, CriticalCrlExtension, StoreFull, DeltaCrl, NoCrl, RelativeName, Indirect}
-use Rattle.ts_store.proofs.OneEncoding.{command_part}
-use Rattle.ts_store.proofs.Encoded.{encoding_short}
+use Rattle.ts_command.specs.Commands.{command_encoding as command_octets, CommandFits}
+use Rattle.ts_command.specs.declared.command.Command.{Command}
+use Rattle.ts_command.specs.declared.outcome.Outcome.{Outcome as Came}
+use Rattle.ts_command.specs.declared.outcome.Outcome.TheVariants.{Applied, Repeated, Refused}
+use Rattle.ts_command.specs.declared.outcome.Refusal.{Refusal}
+use Rattle.ts_command.specs.declared.outcome.Refusal.TheVariants.{AnchorThere, NoAnchor, Malformed, OlderCrl, CriticalCrlExtension, StoreFull, DeltaCrl, NoCrl, RelativeName, Indirect}
+use Rattle.ts_command.proofs.OneEncoding.{command_part}
+use Rattle.ts_command.proofs.Encoded.{encoding_short}
 use Rattle.ts_question.specs.Question.{question_encoding as question_octets, QuestionFits}
 use Rattle.ts_question.specs.QuestionReading.{question_at}
 use Rattle.ts_question.proofs.Fields.{question_part}
 use Rattle.ts_question.proofs.Replies.{answer_part}
 use Rattle.ts_wire.proofs.Lengths.{question_short}
-use Rattle.ts_wire.specs.Outcomes.{refusal_code, outcome_encoding, OutcomeFits, node_fault_code, frame_fault_code}
+use Rattle.ts_command.specs.Outcomes.{refusal_code, refusals}
+use Rattle.ts_wire.specs.Outcomes.{outcome_encoding, OutcomeFits, node_fault_code, frame_fault_code}
 use Rattle.ts_wire.specs.Frames.{frame_kind, taken_encoding, frame_fields, TakenFits, BodyFits, FrameFieldsFit}
 use Rattle.ts_wire.specs.inside.FrameReading.{route_of, route_at, blob_command_at, vote_of, vote_at}
 use Rattle.ts_wire.specs.inside.FrameReading.{taken_at, peer, prepare_at, promise_at, busy_at}
 use Rattle.ts_wire.specs.inside.FrameReading.{accept_at, accepted_at, ask_at, give_at, started_at}
-use Rattle.ts_wire.specs.inside.FrameReading.{refusals, refused_at, outcome_at, settled_at}
+use Rattle.ts_wire.specs.inside.FrameReading.{refused_at, outcome_at, settled_at}
 use Rattle.ts_wire.specs.inside.FrameReading.{node_faults, frame_faults, identity_at, readers}
 use Rattle.ts_wire.specs.inside.FrameReading.{fields_at}
 use Rattle.ts_wire.specs.declared.route.Route.{Route}

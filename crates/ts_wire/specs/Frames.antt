@@ -6,8 +6,8 @@ use Rattle.ts_synod.specs.declared.message.Body.{Body}
 use Rattle.ts_synod.specs.declared.message.Body.TheVariants.{Prepare, Promise, Busy, Accept}
 use Rattle.ts_synod.specs.declared.message.Body.TheVariants.{Accepted, Ask, Give}
 use Rattle.ts_synod.specs.declared.message.Vote.{Vote}
-use Rattle.ts_store.specs.declared.command.Command.{Command}
-use Rattle.ts_store.specs.Commands.{command_encoding as command_octets, CommandFits}
+use Rattle.ts_command.specs.declared.command.Command.{Command}
+use Rattle.ts_command.specs.Commands.{command_encoding as command_octets, CommandFits}
 use Rattle.ts_codec.specs.Parts.{blob32}
 use Rattle.ts_codec.specs.Ranges.{is_node_number, is_position, is_ballot}
 use Rattle.ts_question.specs.Question.{question_encoding as question_octets, QuestionFits}

@@ -2,13 +2,9 @@
 use Rattle.std.specs.Prelude.{◌≡◌, ℕ, true, List, [], ◌∷◌}
 use Rattle.std.specs.Int.{to_be_bytes, w32}
 use Rattle.ts_codec.specs.Ranges.{is_position}
-use Rattle.ts_store.specs.declared.outcome.Outcome.{Outcome}
-use Rattle.ts_store.specs.declared.outcome.Outcome.TheVariants.{Applied, Repeated, Refused}
-use Rattle.ts_store.specs.declared.outcome.Refusal.{Refusal}
-use Rattle.ts_store.specs.declared.outcome.Refusal.TheVariants.{AnchorThere, NoAnchor, Malformed}
-use Rattle.ts_store.specs.declared.outcome.Refusal.TheVariants.{OlderCrl, CriticalCrlExtension}
-use Rattle.ts_store.specs.declared.outcome.Refusal.TheVariants.{StoreFull, DeltaCrl, NoCrl}
-use Rattle.ts_store.specs.declared.outcome.Refusal.TheVariants.{RelativeName, Indirect}
+use Rattle.ts_command.specs.declared.outcome.Outcome.{Outcome}
+use Rattle.ts_command.specs.declared.outcome.Outcome.TheVariants.{Applied, Repeated, Refused}
+use Rattle.ts_command.specs.Outcomes.{refusal_code}
 use Rattle.ts_synod.specs.declared.fault.NodeFault.{NodeFault}
 use Rattle.ts_synod.specs.declared.fault.NodeFault.TheVariants.{Memory, DiskFailed, Broken}
 use Rattle.ts_synod.specs.declared.fault.NodeFault.TheVariants.{RoundsExhausted, PositionsExhausted}
@@ -16,18 +12,6 @@ use Rattle.ts_synod.specs.declared.fault.NodeFault.TheVariants.{GenerationsExhau
 use Rattle.ts_wire.specs.declared.fault.FrameFault.{FrameFault}
 use Rattle.ts_wire.specs.declared.fault.FrameFault.TheVariants.{Length, Version, Kind, Field}
 use Rattle.ts_wire.specs.declared.fault.FrameFault.TheVariants.{Trailing}
-
-abbrev pub refusal_code : Refusal → ℕ
-refusal_code AnchorThere = 1
-refusal_code NoAnchor = 2
-refusal_code Malformed = 3
-refusal_code OlderCrl = 4
-refusal_code CriticalCrlExtension = 5
-refusal_code StoreFull = 6
-refusal_code DeltaCrl = 7
-refusal_code NoCrl = 8
-refusal_code RelativeName = 9
-refusal_code Indirect = 10
 
 -- 00 applied, 01 and the position of the first, or 02 and why it was refused
 abbrev pub outcome_encoding : Outcome → List ℕ

@@ -1,9 +1,9 @@
 //! Frames.
 
 use crate::fault::FrameFault;
+use ts_command::{Command, Outcome};
 use ts_octets::Octets;
 use ts_question::{Answer, Question};
-use ts_store::{Command, Outcome};
 use ts_synod::{Ballot, Message, NodeFault};
 
 /// What a stream carries, from one node to another, to a server or from it.

@@ -8,7 +8,7 @@ ghost use Rattle.ts_wire.specs.inside.FrameReading.{blob_command_at, vote_at, ta
 ghost use Rattle.ts_wire.specs.inside.FrameReading.{prepare_at};
 ghost use Rattle.ts_wire.specs.inside.FrameReading.{promise_at, busy_at, accept_at, accepted_at};
 ghost use Rattle.ts_wire.specs.inside.FrameReading.{ask_at};
-ghost use Rattle.ts_wire.specs.inside.FrameReading.{give_at, started_at, refusals, refused_at};
+ghost use Rattle.ts_wire.specs.inside.FrameReading.{give_at, started_at, refused_at};
 ghost use Rattle.ts_wire.specs.inside.FrameReading.{outcome_at};
 ghost use Rattle.ts_wire.specs.inside.FrameReading.{settled_at, node_faults, frame_faults};
 ghost use Rattle.ts_wire.specs.inside.FrameReading.{identity_at};
@@ -20,9 +20,9 @@ use crate::route::{Route, head};
 use std::alloc::Global;
 use ts_codec::ReadFault;
 use ts_codec::reading::{ballot, blob32, id, node, number32, octet, position, prefix};
+use ts_command::{Command, Outcome, Refusal};
 use ts_octets::Octets;
 use ts_question::{Answer, Question};
-use ts_store::{Command, Outcome, Refusal};
 use ts_synod::{Body, Message, NodeFault, Vote};
 
 /// The command whose encoding is the blob that begins here, and what follows the blob. A blob that
@@ -199,25 +199,6 @@ fn started_frame(octets: &[u8]) -> Result<(Frame, &[u8]), ReadFault>
     Ok((Frame::Started { position, ballot }, rest))
 }
 
-/// The refusal of this code; none where no refusal has it.
-fn refusal(code: u8) -> Option<Refusal>
-    ensures { result ≡ lookup code refusals }
-{
-    Some(match code {
-        1 => Refusal::AnchorThere,
-        2 => Refusal::NoAnchor,
-        3 => Refusal::Malformed,
-        4 => Refusal::OlderCrl,
-        5 => Refusal::CriticalCrlExtension,
-        6 => Refusal::StoreFull,
-        7 => Refusal::DeltaCrl,
-        8 => Refusal::NoCrl,
-        9 => Refusal::RelativeName,
-        10 => Refusal::Indirect,
-        _ => return None,
-    })
-}
-
 /// The outcome that a command was refused, from the code that begins here, and what follows it. An
 /// unknown code is refused.
 #[tactic(auto, unfolding(crate::specs::inside::FrameReading::refused_at, ts_codec::specs::Reading::code_at))]
@@ -225,7 +206,7 @@ fn refused_outcome(octets: &[u8]) -> Result<(Outcome, &[u8]), ReadFault>
     ensures { Gives (λ x. (x.0, x.1.now)) result (refused_at octets.now) }
 {
     let (code, rest) = octet(octets)?;
-    match refusal(code) {
+    match Refusal::of_code(u32::from(code)) {
         Some(refusal) => Ok((Outcome::Refused(refusal), rest)),
         None => Err(ReadFault::Form),
     }

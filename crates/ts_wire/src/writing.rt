@@ -3,9 +3,9 @@
 ghost use Rattle.std.specs.Prelude.{◌≡◌, ◌≤◌, ◌<◌, ◌+◌, ◌++◌, ◌∷◌, length, IfOk, OnOk, OnErr, Err};
 ghost use Rattle.std.specs.Int.{to_be_bytes, w32, w64};
 ghost use Rattle.ts_codec.specs.Parts.{blob32};
-ghost use Rattle.ts_store.specs.Commands.{command_encoding as command_octets};
+ghost use Rattle.ts_command.specs.Commands.{command_encoding as command_octets};
 ghost use Rattle.ts_question.specs.Question.{question_encoding as question_octets};
-ghost use Rattle.ts_wire.specs.Outcomes.{refusal_code, outcome_encoding};
+ghost use Rattle.ts_wire.specs.Outcomes.{outcome_encoding};
 ghost use Rattle.ts_wire.specs.Frames.{body_kind, frame_kind, taken_encoding, body_encoding};
 ghost use Rattle.ts_wire.specs.Frames.{frame_fields};
 ghost use Rattle.ts_wire.specs.Frames.{frame_encoding};
@@ -16,9 +16,9 @@ use crate::frame::Frame;
 use crate::wire_error::WriteError;
 use std::alloc::{AllocError, Global};
 use ts_codec::writing::{push_blob32, push_number32, push_number64};
+use ts_command::{Command, Outcome};
 use ts_octets::Octets;
 use ts_question::Question;
-use ts_store::{Command, Outcome, Refusal};
 use ts_synod::{Body, Vote};
 
 /// The most octets after a frame's length.
@@ -131,24 +131,6 @@ fn push_body(alloc: Global, out: &mut Vec<u8>, body: &Body<Command>) -> Result<(
     Ok(())
 }
 
-/// The code of a refusal.
-fn refusal_code(refusal: Refusal) -> u8
-    ensures { result ≡ refusal_code refusal }
-{
-    match refusal {
-        Refusal::AnchorThere => 1,
-        Refusal::NoAnchor => 2,
-        Refusal::Malformed => 3,
-        Refusal::OlderCrl => 4,
-        Refusal::CriticalCrlExtension => 5,
-        Refusal::StoreFull => 6,
-        Refusal::DeltaCrl => 7,
-        Refusal::NoCrl => 8,
-        Refusal::RelativeName => 9,
-        Refusal::Indirect => 10,
-    }
-}
-
 /// Writes an outcome: its form, and the position of a repeated command or the code of a refusal.
 fn push_outcome(out: &mut Vec<u8>, outcome: Outcome) -> Result<(), AllocError>
     ensures { OnOk result (out.new.items ≡ out.old.items ++ outcome_encoding outcome) }
@@ -161,7 +143,7 @@ fn push_outcome(out: &mut Vec<u8>, outcome: Outcome) -> Result<(), AllocError>
         }
         Outcome::Refused(refusal) => {
             out.push(2)?;
-            out.push(refusal_code(refusal))?;
+            out.push(refusal.code())?;
         }
     }
     Ok(())

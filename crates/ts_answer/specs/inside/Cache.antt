@@ -5,7 +5,7 @@ use Rattle.std.specs.Int.{to_be_bytes, w32}
 use Rattle.ts_question.specs.Question.{StoreQuestion, QuestionFits, question_encoding}
 use Rattle.ts_question.specs.Reply.{NumberedReply, AnswerFits, answer_encoding}
 use Rattle.ts_search.specs.View.{Check}
-use Rattle.ts_store.specs.declared.command.Command.{Command}
+use Rattle.ts_command.specs.declared.command.Command.{Command}
 use Rattle.ts_answer.specs.Machine.{IsAnswer}
 
 -- the key of an answer: the four octets of k, and the octets of the question

@@ -9,8 +9,8 @@ use Rattle.ts_search.specs.declared.answer.SearchAnswer.{SearchAnswer}
 use Rattle.ts_search.specs.declared.answer.SearchAnswer.TheVariants.{Found, NoPath, SearchLimit}
 use Rattle.ts_question.specs.Reply.{are_places, is_place, is_reply}
 use Rattle.ts_question.specs.declared.reply.Reply.{Reply}
-use Rattle.ts_store.specs.Commands.{CommandFits}
-use Rattle.ts_store.specs.declared.command.Command.{Command}
+use Rattle.ts_command.specs.Commands.{CommandFits}
+use Rattle.ts_command.specs.declared.command.Command.{Command}
 
 -- each field is in its range, whatever k is
 abbrev pub InRange : Reply → Type 0

@@ -12,7 +12,7 @@ use Rattle.ts_search.specs.View.{Check}
 use Rattle.ts_question.specs.declared.question.Target.{Target}
 use Rattle.ts_question.specs.declared.question.Target.TheVariants.{Store, Log}
 use Rattle.ts_question.specs.declared.terms.Terms.{Terms}
-use Rattle.ts_store.specs.declared.command.Command.{Command}
+use Rattle.ts_command.specs.declared.command.Command.{Command}
 use Rattle.ts_listing.specs.Log.{log_of}
 use Rattle.ts_listing.specs.View.{line_in}
 use Rattle.ts_listing.specs.declared.log.Entry.{Entry}

@@ -6,8 +6,8 @@ use Rattle.ts_der.specs.View.{now}
 use Rattle.ts_shape.specs.declared.fault.CertFault.{CertFault}
 use Rattle.ts_shape.specs.Items.{items_at}
 use Rattle.ts_ext.specs.declared.known.Holder.TheVariants.{Certificate}
-use Rattle.ts_ext.specs.Extension.{Located, located_in}
-use Rattle.ts_ext.specs.ValueRules.{extension_list_fault}
+use Rattle.ts_extensions.specs.Extension.{Located, located_in}
+use Rattle.ts_extensions.specs.ValueRules.{extension_list_fault}
 
 abbrev pub all_located_within : Element → List Located
 all_located_within e = items_at located_in (inside (now e))

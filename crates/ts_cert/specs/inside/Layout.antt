@@ -5,8 +5,8 @@ use Rattle.ts_der.specs.Reading.{begins_with}
 use Rattle.ts_shape.specs.Fields.{IfAny}
 use Rattle.ts_shape.specs.Repeats.{first_repeated}
 use Rattle.ts_ext.specs.declared.known.Holder.TheVariants.{Certificate as CertificateHolder}
-use Rattle.ts_ext.specs.Extension.{Extension, AreExplicit}
-use Rattle.ts_ext.specs.ValueRules.{AreValid}
+use Rattle.ts_extensions.specs.Extension.{Extension, AreExplicit}
+use Rattle.ts_extensions.specs.ValueRules.{AreValid}
 use Rattle.ts_cert.specs.declared.version.Version.TheVariants.{V3}
 use Rattle.ts_cert.specs.Encoding.{version_octets}
 

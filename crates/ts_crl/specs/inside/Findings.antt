@@ -7,8 +7,8 @@ use Rattle.ts_der.specs.Element.{Place}
 use Rattle.ts_shape.specs.Shape.{◌or_else◌}
 use Rattle.ts_ext.specs.declared.known.Holder.TheVariants.{Entry}
 use Rattle.ts_ext.specs.declared.known.Known.TheVariants.{CertificateIssuer}
-use Rattle.ts_ext.specs.Extension.{Located, unlocated}
-use Rattle.ts_ext.specs.ValueRules.{values_fault}
+use Rattle.ts_extensions.specs.Extension.{Located, unlocated}
+use Rattle.ts_extensions.specs.ValueRules.{values_fault}
 use Rattle.ts_crl.specs.declared.extension_rule.ExtensionRule.TheVariants.{OldVersion, Repeated}
 use Rattle.ts_crl.specs.List.{LocatedExtensions, LocatedEntry}
 use Rattle.ts_crl.specs.Profile.{unprocessed_in}

@@ -2,9 +2,9 @@
 -- those of the store after any number of its commands.
 use Rattle.std.specs.Prelude.{◌≡◌, ◌≤◌, ℕ, List, [], ◌∷◌, length, map, take}
 use Rattle.ts_store.specs.Store.{StoreState, store_after}
-use Rattle.ts_store.specs.declared.command.Command.{Command}
-use Rattle.ts_store.specs.declared.outcome.Outcome.{Outcome}
-use Rattle.ts_store.specs.declared.outcome.Outcome.TheVariants.{Applied, Repeated, Refused}
+use Rattle.ts_command.specs.declared.command.Command.{Command}
+use Rattle.ts_command.specs.declared.outcome.Outcome.{Outcome}
+use Rattle.ts_command.specs.declared.outcome.Outcome.TheVariants.{Applied, Repeated, Refused}
 use Rattle.ts_history.specs.Contents.{Contents, no_contents, contents_of}
 use Rattle.ts_history.specs.inside.Taken.{command_in, apply_change}
 use Rattle.ts_history.specs.declared.taken.TableChange.{TableChange}

@@ -4,8 +4,8 @@ use Rattle.std.specs.Prelude.{ℕ, List, [], ◌∷◌, ◌++◌, slice_set}
 use Rattle.std.specs.List.{remove}
 use Rattle.ts_store.specs.Anchors.{with_purposes}
 use Rattle.ts_store.specs.declared.anchor.TrustAnchor.{TrustAnchor}
-use Rattle.ts_store.specs.declared.command.Command.{Command}
-use Rattle.ts_store.specs.declared.command.Command.TheVariants.{AddAnchor, LoadCrl, SetPurposes}
+use Rattle.ts_command.specs.declared.command.Command.{Command}
+use Rattle.ts_command.specs.declared.command.Command.TheVariants.{AddAnchor, LoadCrl, SetPurposes}
 use Rattle.ts_store.specs.declared.stored.StoredCrl.{StoredCrl}
 use Rattle.ts_history.specs.declared.taken.KeptCommand.{KeptCommand}
 use Rattle.ts_history.specs.declared.taken.KeptCommand.TheVariants.{Anchor, Crl, Other}

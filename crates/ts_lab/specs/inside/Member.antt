@@ -8,8 +8,8 @@ use Rattle.ts_node.specs.declared.input.Input.{Input}
 use Rattle.ts_node.specs.declared.node.Node.{Node}
 use Rattle.ts_question.specs.declared.question.Question.{Question}
 use Rattle.ts_sig.specs.declared.stand_in.DigestCheck.{DigestCheck}
-use Rattle.ts_store.specs.Octets.{octets_of}
-use Rattle.ts_store.specs.declared.command.Command.{Command}
+use Rattle.ts_command.specs.Octets.{octets_of}
+use Rattle.ts_command.specs.declared.command.Command.{Command}
 
 -- it is one that opening gave, or that took inputs since
 abbrev pub IsSoundNode : Node MemDisk Command (Answers DigestCheck) → Type 0

@@ -3,8 +3,8 @@ use Rattle.std.specs.Prelude.{◌≡◌, ◌⊎◌, ℕ, List, [], ◌∷◌, Bo
 use Rattle.std.specs.Prelude.{if◌then◌else◌}
 use Rattle.ts_access.specs.Roles.{may}
 use Rattle.ts_access.specs.declared.key.Key.{Key}
-use Rattle.ts_store.specs.Commands.{command_encoding as command_octets, CommandFits, id_of}
-use Rattle.ts_store.specs.declared.command.Command.{Command}
+use Rattle.ts_command.specs.Commands.{command_encoding as command_octets, CommandFits, id_of}
+use Rattle.ts_command.specs.declared.command.Command.{Command}
 use Rattle.ts_wire.specs.Frames.{frame_encoding}
 use Rattle.ts_wire.specs.declared.frame.Frame.TheVariants.{Submit}
 use Rattle.ts_site.specs.declared.next.Next.{Next}

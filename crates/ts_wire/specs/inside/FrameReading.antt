@@ -12,15 +12,11 @@ use Rattle.ts_synod.specs.declared.message.Body.{Body}
 use Rattle.ts_synod.specs.declared.message.Body.TheVariants.{Prepare, Promise, Busy, Accept}
 use Rattle.ts_synod.specs.declared.message.Body.TheVariants.{Accepted, Ask, Give}
 use Rattle.ts_synod.specs.declared.message.Vote.{Vote}
-use Rattle.ts_store.specs.declared.command.Command.{Command}
-use Rattle.ts_store.specs.declared.outcome.Outcome.{Outcome as Came}
-use Rattle.ts_store.specs.declared.outcome.Outcome.TheVariants.{Applied, Repeated, Refused}
-use Rattle.ts_store.specs.declared.outcome.Refusal.{Refusal}
-use Rattle.ts_store.specs.declared.outcome.Refusal.TheVariants.{AnchorThere, NoAnchor, Malformed}
-use Rattle.ts_store.specs.declared.outcome.Refusal.TheVariants.{OlderCrl, CriticalCrlExtension}
-use Rattle.ts_store.specs.declared.outcome.Refusal.TheVariants.{StoreFull, DeltaCrl, NoCrl}
-use Rattle.ts_store.specs.declared.outcome.Refusal.TheVariants.{RelativeName, Indirect}
-use Rattle.ts_store.specs.Reading.{command_at}
+use Rattle.ts_command.specs.declared.command.Command.{Command}
+use Rattle.ts_command.specs.declared.outcome.Outcome.{Outcome as Came}
+use Rattle.ts_command.specs.declared.outcome.Outcome.TheVariants.{Applied, Repeated, Refused}
+use Rattle.ts_command.specs.Outcomes.{refusals}
+use Rattle.ts_command.specs.Reading.{command_at}
 use Rattle.ts_wire.specs.Frames.{is_kind}
 use Rattle.ts_wire.specs.declared.route.Route.{Route}
 use Rattle.ts_synod.specs.declared.fault.NodeFault.{NodeFault as NodeFaultOf}
@@ -86,11 +82,6 @@ give_at = route_at and blob_command_at into (λ x. peer x.0 (Give x.0.position x
 
 unfoldable pub started_at : Reader Frame
 started_at = position_at and ballot_at into (λ x. Started x.0 x.1)
-
-abbrev pub refusals : List (ℕ × Refusal)
-refusals = (1, AnchorThere) ∷ (2, NoAnchor) ∷ (3, Malformed) ∷ (4, OlderCrl)
-    ∷ (5, CriticalCrlExtension) ∷ (6, StoreFull) ∷ (7, DeltaCrl) ∷ (8, NoCrl) ∷ (9, RelativeName)
-    ∷ (10, Indirect) ∷ []
 
 unfoldable pub refused_at : Reader Came
 refused_at = code_at refusals into Refused

@@ -1,7 +1,7 @@
 -- The node stays sound.
 use Rattle.ts_disk.specs.Memory.{state_of}
 use Rattle.ts_node.specs.Node.{IsSound}
-use Rattle.ts_store.specs.Octets.{octets_of}
+use Rattle.ts_command.specs.Octets.{octets_of}
 use Rattle.test_serve.specs.declared.test_machine.Applies.{Applies}
 use Rattle.test_serve.proofs.serve_tests.rows_hold.Given as goal
 

@@ -1,4 +1,4 @@
-use Rattle.ts_store.proofs.Encoded.{at_least, at_most}
+use Rattle.ts_command.proofs.Encoded.{at_least, at_most}
 use Rattle.ts_answer.proofs.deliverable.is_short.Goals as goal
 
 pub returns : goal.returns

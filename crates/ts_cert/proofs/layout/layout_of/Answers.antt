@@ -3,7 +3,7 @@ use Rattle.std.proofs.lemmas.List.{append-nil, drop_all}
 use Rattle.ts_der.specs.Element.{encode}
 use Rattle.ts_der.specs.Reading.{begins_with}
 use Rattle.ts_shape.proofs.OptionalParts.{begins-other, begins-if-any}
-use Rattle.ts_ext.specs.Extension.{AreExplicit}
+use Rattle.ts_extensions.specs.Extension.{AreExplicit}
 use Rattle.ts_cert.specs.Encoding.{IsUniqueIdentifier}
 use Rattle.ts_cert.proofs.Layouts.{lies, passed, if-passed, version-passed}
 use Rattle.ts_cert.proofs.layout.layout_of.Goals as goal

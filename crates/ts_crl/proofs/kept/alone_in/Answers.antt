@@ -1,7 +1,7 @@
 use Rattle.std.proofs.Common.{ap, sym, ◌∙◌}
 use Rattle.ts_der.specs.Reading.{next_at}
 use Rattle.ts_der.specs.View.{now}
-use Rattle.ts_crl.proofs.Lending.{extensions-again}
+use Rattle.ts_crl.proofs.Borrowing.{extensions-again}
 use Rattle.ts_crl.proofs.kept.alone_in.Goals as goal
 
 pub returns : goal.returns

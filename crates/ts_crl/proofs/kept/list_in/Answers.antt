@@ -1,5 +1,5 @@
 use Rattle.ts_der.specs.View.{now}
-use Rattle.ts_crl.proofs.Lending.{signed-kept, whole-kept}
+use Rattle.ts_crl.proofs.Borrowing.{signed-kept, whole-kept}
 use Rattle.ts_crl.proofs.kept.list_in.Goals as goal
 
 pub signed_in-requires : goal.signed_in-requires

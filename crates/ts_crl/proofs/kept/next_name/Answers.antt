@@ -1,5 +1,5 @@
 use Rattle.ts_der.specs.View.{now}
-use Rattle.ts_crl.proofs.Lending.{name-kept, name-again}
+use Rattle.ts_crl.proofs.Borrowing.{name-kept, name-again}
 use Rattle.ts_crl.proofs.kept.next_name.Goals as goal
 
 pub invariant_of-result : goal.invariant_of-result

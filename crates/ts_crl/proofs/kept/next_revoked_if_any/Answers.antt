@@ -5,7 +5,7 @@ use Rattle.ts_der.specs.Answer.{refusal}
 use Rattle.ts_der.specs.View.{now}
 use Rattle.ts_crl.specs.Findings.{Findings}
 use Rattle.ts_crl.specs.List.{LocatedEntry}
-use Rattle.ts_crl.proofs.Lending.{entries-kept, entries-again}
+use Rattle.ts_crl.proofs.Borrowing.{entries-kept, entries-again}
 use Rattle.ts_crl.proofs.kept.next_revoked_if_any.Goals as goal
 
 pub invariant_of-result-clause-read : goal.invariant_of-result-clause-read

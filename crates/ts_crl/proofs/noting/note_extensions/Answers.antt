@@ -6,8 +6,8 @@ use Rattle.ts_der.specs.View.{now}
 use Rattle.ts_der.proofs.Many.{goes_on, breaks_off, is_done}
 use Rattle.ts_shape.specs.Items.{each, some_of}
 use Rattle.ts_shape.proofs.ItemParts.{each-consumes, some-is, none-is}
-use Rattle.ts_ext.specs.Extension.{located_in}
-use Rattle.ts_ext.specs.ExtensionView.{located_as}
+use Rattle.ts_extensions.specs.Extension.{located_in}
+use Rattle.ts_extensions.specs.ExtensionView.{located_as}
 use Rattle.ts_crl.specs.FindingsView.{findings_in}
 use Rattle.ts_crl.proofs.Joining.{many-fronted, extension-joined, no-extension-joined}
 use Rattle.ts_crl.proofs.noting.note_extensions.Goals as goal

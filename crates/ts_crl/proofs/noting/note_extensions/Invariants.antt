@@ -4,7 +4,7 @@ use Rattle.ts_der.specs.Reading.{many}
 use Rattle.ts_der.specs.View.{now}
 use Rattle.ts_der.proofs.Many.{with_front}
 use Rattle.ts_shape.specs.Items.{each}
-use Rattle.ts_ext.specs.Extension.{Located, located_in}
+use Rattle.ts_extensions.specs.Extension.{Located, located_in}
 use Rattle.ts_crl.specs.inside.Findings.{join, found_among}
 use Rattle.ts_crl.specs.FindingsView.{findings_in}
 use Rattle.ts_crl.proofs.noting.note_extensions.Given as goal

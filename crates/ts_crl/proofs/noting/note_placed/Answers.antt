@@ -2,7 +2,7 @@ use Rattle.std.proofs.Common.{List, Ok, length, refl, ap, sym, ◌∙◌}
 use Rattle.ts_der.specs.Element.{inside}
 use Rattle.ts_der.specs.View.{now}
 use Rattle.ts_shape.specs.Items.{items_at}
-use Rattle.ts_ext.specs.Extension.{Located, located_in}
+use Rattle.ts_extensions.specs.Extension.{Located, located_in}
 use Rattle.ts_crl.specs.inside.Findings.{join, found_among}
 use Rattle.ts_crl.specs.FindingsView.{findings_in}
 use Rattle.ts_crl.specs.List.{LocatedExtensions}

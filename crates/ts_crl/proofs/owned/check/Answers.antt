@@ -8,7 +8,7 @@ use Rattle.ts_crl.specs.List.{CertificateList, RevokedCertificate, unlocated_ent
 use Rattle.ts_crl.specs.ListView.{located_list_in}
 use Rattle.ts_crl.proofs.Checking.{was-read, out-of-memory}
 use Rattle.ts_crl.proofs.Finds.{seen-twice}
-use Rattle.ts_crl.proofs.Lending.{read-list, unfaulted}
+use Rattle.ts_crl.proofs.Borrowing.{read-list, unfaulted}
 use Rattle.ts_crl.proofs.owned.check.Goals as goal
 
 pub returns-in_err-endings_of : goal.returns-in_err-endings_of

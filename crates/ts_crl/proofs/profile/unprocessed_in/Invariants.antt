@@ -1,7 +1,7 @@
 use Rattle.std.proofs.Common.{◌≡◌}
 use Rattle.std.specs.Prelude.{map}
 use Rattle.ts_shape.specs.Items.{items_at}
-use Rattle.ts_ext.specs.Extension.{unlocated, located_in}
+use Rattle.ts_extensions.specs.Extension.{unlocated, located_in}
 use Rattle.ts_crl.specs.EntryView.{located_items_in}
 use Rattle.ts_crl.specs.Profile.{unprocessed_in}
 use Rattle.ts_crl.proofs.profile.unprocessed_in.Given as goal

@@ -2,8 +2,8 @@ use Rattle.std.proofs.Common.{◌≡◌}
 use Rattle.std.specs.Prelude.{map}
 use Rattle.ts_shape.specs.Items.{items_at}
 use Rattle.ts_ext.specs.declared.known.Holder.TheVariants.{List as ListHolder}
-use Rattle.ts_ext.specs.Extension.{located_in}
-use Rattle.ts_ext.specs.ValueRules.{values_fault}
+use Rattle.ts_extensions.specs.Extension.{located_in}
+use Rattle.ts_extensions.specs.ValueRules.{values_fault}
 use Rattle.ts_crl.specs.EntryView.{located_items_in}
 use Rattle.ts_crl.specs.Rules.{located_as_ruled}
 use Rattle.ts_crl.proofs.rules.list_values_fault.Given as goal

@@ -1,7 +1,7 @@
 use Rattle.std.proofs.Common.{ap, ◌∙◌}
 use Rattle.std.specs.Prelude.{option_map}
-use Rattle.ts_ext.specs.Extension.{unlocated}
-use Rattle.ts_ext.specs.ExtensionView.{located_as, all_located_in}
+use Rattle.ts_extensions.specs.Extension.{unlocated}
+use Rattle.ts_extensions.specs.ExtensionView.{located_as, all_located_in}
 use Rattle.ts_crl.proofs.Finds.{unlocated-find, seen-twice}
 use Rattle.ts_crl.proofs.slots.find_among.Goals as goal
 

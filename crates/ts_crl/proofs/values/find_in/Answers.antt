@@ -2,8 +2,8 @@ use Rattle.std.proofs.Common.{List, ap, ◌∙◌}
 use Rattle.std.specs.List.{find}
 use Rattle.std.specs.Prelude.{option_map}
 use Rattle.std.specs.Str.{bytes_eq}
-use Rattle.ts_ext.specs.Extension.{Located, unlocated}
-use Rattle.ts_ext.specs.ExtensionView.{located_as}
+use Rattle.ts_extensions.specs.Extension.{Located, unlocated}
+use Rattle.ts_extensions.specs.ExtensionView.{located_as}
 use Rattle.ts_ext.specs.Known.{identifier_of}
 use Rattle.ts_crl.specs.EntryView.{located_items_in}
 use Rattle.ts_crl.proofs.Finds.{unlocated-find, seen-twice}

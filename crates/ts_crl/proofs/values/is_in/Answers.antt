@@ -1,6 +1,6 @@
 use Rattle.std.proofs.Common.{◌∙◌}
 use Rattle.std.specs.Prelude.{map}
-use Rattle.ts_ext.specs.Extension.{unlocated}
+use Rattle.ts_extensions.specs.Extension.{unlocated}
 use Rattle.ts_crl.specs.EntryView.{extension_as, located_items_in}
 use Rattle.ts_crl.specs.Values.{is_known}
 use Rattle.ts_crl.proofs.Finds.{some-found}

@@ -4,7 +4,7 @@ use Rattle.sha2.specs.Sha256.{sha256}
 use Rattle.ts_cert.specs.Table.{certificate_fault}
 use Rattle.ts_cert.specs.declared.owned.OwnedCertFault.TheVariants.{Memory, Unreadable}
 use Rattle.ts_store.specs.Anchors.{new_refusal}
-use Rattle.ts_store.specs.declared.command.Command.TheVariants.{AddAnchor}
+use Rattle.ts_command.specs.declared.command.Command.TheVariants.{AddAnchor}
 use Rattle.ts_history.proofs.Applied.{added, kept_is, not_added, not_ok}
 use Rattle.ts_history.proofs.taken.anchor_taken.Goals as goal
 

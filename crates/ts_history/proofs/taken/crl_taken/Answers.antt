@@ -3,7 +3,7 @@ use Rattle.sha2.specs.Sha256.{sha256}
 use Rattle.ts_crl.specs.ListView.{crl_in}
 use Rattle.ts_crl.specs.Table.{crl_fault, crl_of}
 use Rattle.ts_crl.specs.declared.owned.OwnedCrlFault.TheVariants.{Memory}
-use Rattle.ts_store.specs.declared.command.Command.TheVariants.{LoadCrl}
+use Rattle.ts_command.specs.declared.command.Command.TheVariants.{LoadCrl}
 use Rattle.ts_history.proofs.Applied.{kept_is, loaded}
 use Rattle.ts_history.proofs.taken.crl_taken.Goals as goal
 

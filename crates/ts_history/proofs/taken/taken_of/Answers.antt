@@ -1,7 +1,7 @@
 use Rattle.std.proofs.Common.{◌≡◌, Ok, subst}
 use Rattle.std.proofs.lemmas.Result.{IfOk-weaker}
 use Rattle.ts_store.specs.Tables.{Tables, change as change_by}
-use Rattle.ts_store.specs.declared.command.Command.{Command}
+use Rattle.ts_command.specs.declared.command.Command.{Command}
 use Rattle.ts_history.proofs.Applied.{drop_taken}
 use Rattle.ts_history.proofs.taken.taken_of.Goals as goal
 

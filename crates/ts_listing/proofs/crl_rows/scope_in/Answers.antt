@@ -1,7 +1,7 @@
 use Rattle.std.proofs.Common.{◌∙◌, Option, List, ℕ, [], sym, ap}
 use Rattle.std.specs.Prelude.{option_map, unwrap_or}
-use Rattle.ts_ext.specs.declared.extension.Extension.{Extension as Borrowed}
-use Rattle.ts_ext.specs.ExtensionView.{all_located_in}
+use Rattle.ts_extensions.specs.declared.extension.Extension.{Extension as Borrowed}
+use Rattle.ts_extensions.specs.ExtensionView.{all_located_in}
 use Rattle.ts_listing.specs.Listing.{first_octets}
 use Rattle.ts_listing.proofs.Scopes.{scope_is, value_in}
 use Rattle.ts_listing.proofs.crl_rows.scope_in.Goals as goal

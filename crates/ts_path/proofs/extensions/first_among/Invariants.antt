@@ -2,8 +2,8 @@
 use Rattle.std.proofs.Common.{◌≡◌, map}
 use Rattle.std.specs.List.{find}
 use Rattle.ts_shape.specs.Items.{items_at}
-use Rattle.ts_ext.specs.Extension.{unlocated, located_in}
-use Rattle.ts_ext.specs.ExtensionView.{extensions_in}
+use Rattle.ts_extensions.specs.Extension.{unlocated, located_in}
+use Rattle.ts_extensions.specs.ExtensionView.{extensions_in}
 use Rattle.ts_cert.specs.CertView.{cert_in}
 use Rattle.ts_path.specs.Extensions.{is_refused}
 use Rattle.ts_path.proofs.extensions.first_among.Given as goal

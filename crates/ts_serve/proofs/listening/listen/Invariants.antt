@@ -2,7 +2,7 @@
 use Rattle.ts_question.specs.Question.{StoreQuestion}
 use Rattle.ts_node.specs.Machine.{store_of}
 use Rattle.ts_node.specs.Node.{IsSound}
-use Rattle.ts_store.specs.Octets.{octets_of}
+use Rattle.ts_command.specs.Octets.{octets_of}
 use Rattle.ts_serve.specs.Turn.{ServerTurn}
 use Rattle.ts_serve.proofs.Whole.{HasRun}
 use Rattle.ts_serve.proofs.listening.listen.Given as goal

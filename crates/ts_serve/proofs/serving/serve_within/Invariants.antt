@@ -3,7 +3,7 @@ use Rattle.std.proofs.Common.{◌≡◌, length}
 use Rattle.ts_question.specs.Question.{StoreQuestion}
 use Rattle.ts_node.specs.Machine.{store_of}
 use Rattle.ts_node.specs.Node.{IsSound}
-use Rattle.ts_store.specs.Octets.{octets_of}
+use Rattle.ts_command.specs.Octets.{octets_of}
 use Rattle.ts_serve.specs.Turn.{ServerTurn}
 use Rattle.ts_serve.specs.inside.Steps.{SoFar}
 use Rattle.ts_serve.proofs.serving.serve_within.Given as goal

@@ -1,6 +1,6 @@
 use Rattle.std.proofs.Common.{◌≤◌, length, ap, arith}
-use Rattle.ts_store.specs.Commands.{command_encoding}
-use Rattle.ts_store.proofs.Encoded.{encoding_short}
+use Rattle.ts_command.specs.Commands.{command_encoding}
+use Rattle.ts_command.proofs.Encoded.{encoding_short}
 use Rattle.ts_wire.proofs.writing.push_command.Goals as goal
 
 pub push_blob32-requires : goal.push_blob32-requires

@@ -1,6 +1,6 @@
 use Rattle.std.proofs.Common.{List, ap, sym, ◌∙◌}
 use Rattle.std.specs.List.{find}
-use Rattle.ts_ext.specs.Extension.{Located}
+use Rattle.ts_extensions.specs.Extension.{Located}
 use Rattle.ts_cert.specs.CertView.{cert_in}
 use Rattle.ts_cert.specs.inside.AllLocated.{all_located_within}
 use Rattle.ts_cert.proofs.StatedValues.{is_known, none-stands, none-found, one-found}

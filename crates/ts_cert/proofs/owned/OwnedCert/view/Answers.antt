@@ -11,12 +11,12 @@ invariant_of-result c = record { laid = ∣ subst (λ (o : List ℕ). AreLaidOut
 
 pub returns-clause-found : goal.returns-clause-found
 returns-clause-found c =
-    let lent : c.args.self.now ≡ c.as_slice.result.now = sym (c.as_slice.ensures ∙ c.self.view_is) in
+    let borrowed : c.args.self.now ≡ c.as_slice.result.now = sym (c.as_slice.ensures ∙ c.self.view_is) in
     let laid = subst (λ (o : List ℕ). AreLaidOut o c.self.inside.layout) (sym c.as_slice.ensures) c.self.invariant in
-    subst (λ (o : List ℕ). IsCertificate o (certificate_in c.as_slice.result.now)) (sym lent) (is-certificate c.as_slice.result.now c.self.inside.layout laid)
+    subst (λ (o : List ℕ). IsCertificate o (certificate_in c.as_slice.result.now)) (sym borrowed) (is-certificate c.as_slice.result.now c.self.inside.layout laid)
 
 pub returns-clause-exact : goal.returns-clause-exact
 returns-clause-exact c =
-    let lent : c.args.self.now ≡ c.as_slice.result.now = sym (c.as_slice.ensures ∙ c.self.view_is) in
+    let borrowed : c.args.self.now ≡ c.as_slice.result.now = sym (c.as_slice.ensures ∙ c.self.view_is) in
     let laid = subst (λ (o : List ℕ). AreLaidOut o c.self.inside.layout) (sym c.as_slice.ensures) c.self.invariant in
-    ap certificate_of lent ∙ is-read c.as_slice.result.now c.self.inside.layout laid
+    ap certificate_of borrowed ∙ is-read c.as_slice.result.now c.self.inside.layout laid

@@ -1,6 +1,6 @@
 use Rattle.std.proofs.Common.{sym, ◌∙◌}
 use Rattle.ts_crl.proofs.Checking.{not-kept, refused}
-use Rattle.ts_crl.proofs.Lending.{unfaulted, none-some}
+use Rattle.ts_crl.proofs.Borrowing.{unfaulted, none-some}
 use Rattle.ts_crl.proofs.owned.OwnedCrl.of.Goals as goal
 
 pub returns-in_err-checked-clause-kept : goal.returns-in_err-checked-clause-kept

@@ -1,7 +1,7 @@
 -- A call of the node was answered.
 use Rattle.std.proofs.Common.{◌∙◌, ap, ◌∷◌, [], ◌++◌, take, List}
 use Rattle.ts_synod.specs.declared.message.Message.{Message}
-use Rattle.ts_store.specs.declared.command.Command.{Command}
+use Rattle.ts_command.specs.declared.command.Command.{Command}
 use Rattle.ts_question.specs.Question.{StoreQuestion}
 use Rattle.ts_node.specs.Machine.{store_of}
 use Rattle.ts_wire.specs.declared.frame.Frame.{Frame}

@@ -1,7 +1,7 @@
 use Rattle.std.proofs.Common.{◌∙◌}
 use Rattle.ts_store.specs.Store.{StoreState}
 use Rattle.ts_store.specs.declared.ids.FirstCommand.{FirstCommand}
-use Rattle.ts_store.specs.declared.outcome.Outcome.TheVariants.{Applied, Refused}
+use Rattle.ts_command.specs.declared.outcome.Outcome.TheVariants.{Applied, Refused}
 use Rattle.ts_store.proofs.Changing.{undone, has-room, settled, applied, refused}
 use Rattle.ts_store.proofs.store.Store.apply.Goals as goal
 

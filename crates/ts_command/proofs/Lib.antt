@@ -1,0 +1,2 @@
+pub mod OneEncoding
+pub mod Encoded

@@ -1,0 +1,5 @@
+pub mod Commands
+pub mod Octets
+pub mod Outcomes
+pub mod Purposes
+pub mod Reading

@@ -1,6 +1,0 @@
-use Rattle.std.proofs.Common.{sym, ◌∙◌}
-use Rattle.ts_ext.proofs.FastItems.{subject-key-item}
-use Rattle.ts_ext.proofs.fast_extension.subject_key_size.Goals as goal
-
-pub returns-clause-sound : goal.returns-clause-sound
-returns-clause-sound c = subject-key-item c.args.octets.now (sym c.lie_between.ensures ∙ c.if-not-lie_between.false) c.if-octets-lt31.false

@@ -1,0 +1,11 @@
+pub mod ValueFaults
+pub mod ExtensionParts
+pub mod Unlocated
+pub mod ValidExtensions
+pub mod FastValues
+pub mod Walked
+pub mod UriPoints
+pub mod FastItems
+pub mod ValidLists
+pub mod OneExtension
+pub mod FastFind

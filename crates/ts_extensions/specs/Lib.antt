@@ -1,0 +1,5 @@
+pub mod Extension
+pub mod ExtensionView
+pub mod ValueRules
+pub mod Valid
+pub mod Stated

@@ -1,6 +1,0 @@
--- No request was taken so far.
-use Rattle.ts_links.specs.Calls.{IsQuiet}
-use Rattle.ts_loop.proofs.lock.Lock.hand_on.Given as goal
-
-abbrev pub invariant-loop-step : goal.invariant-loop-step
-invariant-loop-step l = IsQuiet l.initial.table l.table

@@ -1,0 +1,208 @@
+//! Connections are accepted.
+
+ghost use Rattle.ts_links.specs.Calls.{IsQuiet};
+
+use crate::access::Access;
+use crate::counts::{Counts, Why};
+use crate::door::Door;
+use crate::lock::Lock;
+use mio::net::{TcpListener, TcpStream};
+use mio::{Interest, Registry, Token};
+use std::alloc::Global;
+use std::io;
+use std::io::ErrorKind;
+use std::net::SocketAddr;
+use std::random::RandomSource;
+use ts_links::Connections;
+use ts_links::reaching::{close, open};
+
+/// The most connections that one round accepts.
+const ACCEPTS: u32 = 64;
+
+/// How many milliseconds pass until an accept that failed is tried again.
+const RETRY: u64 = 100;
+
+/// When to accept next.
+#[derive(Clone, Copy, Debug, PartialEq, Eq)]
+pub enum Accepts {
+    /// When the listener has an event.
+    AtEvent,
+    /// In the next round.
+    Now,
+    /// At this moment.
+    At(u64),
+}
+
+impl Accepts {
+    /// Whether it is time, where the listener has an event or not.
+    pub fn is_due(self, event: bool, now: u64) -> bool {
+        match self {
+            Accepts::AtEvent => event,
+            Accepts::Now => true,
+            Accepts::At(moment) => moment <= now,
+        }
+    }
+}
+
+/// What new connections are accepted with.
+#[derive(Drop)]
+pub struct Entry<'a, R> {
+    pub rt: &'a R,
+    pub alloc: Global,
+    pub registry: &'a Registry,
+    pub access: &'a Access<'a>,
+}
+
+/// Puts the door of a slot in its place. `false` where its events, or random octets, can't be had.
+fn put_door<R: RandomSource>(
+    doors: &mut [Option<Door>],
+    mut stream: TcpStream,
+    from: SocketAddr,
+    entry: &Entry<'_, R>,
+    slot: usize,
+    now: u64,
+) -> bool {
+    let both = Interest::READABLE | Interest::WRITABLE;
+    if slot >= doors.len()
+        || entry
+            .registry
+            .register(&mut stream, Token(slot), both)
+            .is_err()
+    {
+        return false;
+    }
+    let mut lock = None;
+    if entry.access.is_locked() {
+        lock = Lock::new(entry.rt, entry.alloc, entry.access.node, now);
+        if lock.is_none() {
+            return false;
+        }
+    }
+    doors[slot] = Some(Door::new(stream, from, lock));
+    true
+}
+
+/// When the connection of a door was accepted, if it has shown no key.
+fn unknown_since(place: &Option<Door>) -> Option<u64> {
+    match place {
+        Some(
+            Door {
+                lock: Some(lock),
+                ..
+            },
+        ) => lock.unknown_since(),
+        _ => None,
+    }
+}
+
+/// The slot of the connection that has shown no key for the longest time.
+fn longest_unknown(doors: &[Option<Door>]) -> Option<usize> {
+    let mut found = None;
+    let mut earliest = u64::MAX;
+    for (slot, place) in doors.iter().enumerate() {
+        if let Some(since) = unknown_since(place) {
+            if since < earliest {
+                earliest = since;
+                found = Some(slot);
+            }
+        }
+    }
+    found
+}
+
+/// Closes a connection, and opens its slot anew: where keys are wanted, the one that has shown none
+/// for the longest time; else the one that has been idle longest. `None` where there is none.
+fn make_room(
+    table: &mut Connections,
+    doors: &mut [Option<Door>],
+    is_locked: bool,
+    now: u64,
+    counts: &mut Counts,
+) -> Option<usize>
+    ensures { IsQuiet table.old table.new }
+{
+    let slot = if is_locked {
+        longest_unknown(doors)?
+    } else {
+        table.idlest()?
+    };
+    if slot < doors.len() {
+        doors[slot] = None;
+    }
+    counts.closed(Why::MadeRoom);
+    let _closed = close(table, slot);
+    open(table, now)
+}
+
+/// A slot for a new connection: one that is closed, or that of a connection which makes room.
+fn find_slot(
+    table: &mut Connections,
+    doors: &mut [Option<Door>],
+    is_locked: bool,
+    now: u64,
+    counts: &mut Counts,
+) -> Option<usize>
+    ensures { IsQuiet table.old table.new }
+{
+    if counts.open < doors.len() as u64 {
+        return open(table, now);
+    }
+    make_room(table, doors, is_locked, now, counts)
+}
+
+/// Lets a connection in, if there is a slot for it. Else it is closed.
+fn let_in<R: RandomSource>(
+    table: &mut Connections,
+    doors: &mut [Option<Door>],
+    stream: TcpStream,
+    from: SocketAddr,
+    entry: &Entry<'_, R>,
+    now: u64,
+    counts: &mut Counts,
+)
+    ensures { IsQuiet table.old table.new }
+{
+    let is_locked = entry.access.is_locked();
+    let Some(slot) = find_slot(table, doors, is_locked, now, counts) else {
+        counts.refused = counts.refused.saturating_add(1);
+        return;
+    };
+    counts.opened();
+    if put_door(doors, stream, from, entry, slot, now) {
+        return;
+    }
+    counts.closed(Why::Failed);
+    let _closed = close(table, slot);
+}
+
+/// When to accept again, after an error.
+fn after_error(error: &io::Error, now: u64, counts: &mut Counts) -> Accepts {
+    if error.kind() == ErrorKind::WouldBlock {
+        return Accepts::AtEvent;
+    }
+    counts.failed_accepts = counts.failed_accepts.saturating_add(1);
+    Accepts::At(now.saturating_add(RETRY))
+}
+
+/// Accepts connections, each into a slot, until none waits or one can't be accepted.
+pub fn accept_some<R: RandomSource>(
+    table: &mut Connections,
+    doors: &mut [Option<Door>],
+    listener: &TcpListener,
+    entry: &Entry<'_, R>,
+    now: u64,
+    counts: &mut Counts,
+) -> Accepts
+    ensures { IsQuiet table.old table.new }
+{
+    for _accept in 0..ACCEPTS {
+        match listener.accept() {
+            Ok((stream, from)) => {
+                let _nodelay = stream.set_nodelay(true);
+                let_in(table, doors, stream, from, entry, now, counts);
+            }
+            Err(error) => return after_error(&error, now, counts),
+        }
+    }
+    Accepts::Now
+}

@@ -1,0 +1,78 @@
+//! What a loop has done.
+
+/// What a loop has done, and how often.
+#[derive(Clone, Copy, Debug, PartialEq, Eq)]
+pub struct Counts {
+    /// Connections that were accepted into a slot.
+    pub accepted: u64,
+    /// Connections that were accepted and closed at once, since no slot was free.
+    pub refused: u64,
+    /// Idle connections that made room for another.
+    pub made_room: u64,
+    /// Calls of `accept` that failed.
+    pub failed_accepts: u64,
+    /// Requests and faults that were taken.
+    pub taken: u64,
+    /// Connections whose client had closed them, and all was answered.
+    pub ended: u64,
+    /// Connections whose time was over.
+    pub late: u64,
+    /// Connections that failed.
+    pub failed: u64,
+    /// How many are open.
+    pub open: u64,
+    /// The most that were open at once.
+    pub most: u64,
+}
+
+impl Counts {
+    /// Nothing was done.
+    pub fn new() -> Counts {
+        Counts {
+            accepted: 0,
+            refused: 0,
+            made_room: 0,
+            failed_accepts: 0,
+            taken: 0,
+            ended: 0,
+            late: 0,
+            failed: 0,
+            open: 0,
+            most: 0,
+        }
+    }
+
+    /// A connection was opened.
+    pub fn opened(&mut self) {
+        self.accepted = self.accepted.saturating_add(1);
+        self.open = self.open.saturating_add(1);
+        self.most = self.most.max(self.open);
+    }
+
+    /// A connection was closed.
+    pub fn closed(&mut self, why: Why) {
+        self.open = self.open.saturating_sub(1);
+        match why {
+            Why::Ended => self.ended = self.ended.saturating_add(1),
+            Why::Late => self.late = self.late.saturating_add(1),
+            Why::Failed => self.failed = self.failed.saturating_add(1),
+            Why::MadeRoom => self.made_room = self.made_room.saturating_add(1),
+        }
+    }
+
+    /// How many connections are over.
+    pub fn over(&self) -> u64 {
+        let closed = self.ended.saturating_add(self.late);
+        let others = self.failed.saturating_add(self.made_room);
+        closed.saturating_add(others).saturating_add(self.refused)
+    }
+}
+
+/// Why a connection was closed.
+#[derive(Clone, Copy, Debug, PartialEq, Eq)]
+pub enum Why {
+    Ended,
+    Late,
+    Failed,
+    MadeRoom,
+}

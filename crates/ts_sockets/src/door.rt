@@ -1,0 +1,300 @@
+//! The socket of a slot, and what is known of it.
+
+ghost use Rattle.std.specs.Prelude.{◌≤◌, IfSome, length};
+ghost use Rattle.ts_links.specs.Calls.{IsQuiet};
+
+use crate::lock::{HandOver, Lock};
+use mio::net::TcpStream;
+use std::io::{ErrorKind, Read, Write};
+use std::net::{Shutdown, SocketAddr};
+use ts_access::Key;
+use ts_links::reaching::{arrive, leave};
+use ts_links::{Connections, Service, Stage};
+
+/// The most octets that one read takes.
+pub const PIECE: usize = 16_384;
+
+/// The socket of a slot. An event comes at a change alone, so that what may be done is kept here
+/// until the socket refuses it.
+#[derive(Drop)]
+pub struct Door {
+    pub stream: TcpStream,
+    /// The address of its client.
+    pub from: SocketAddr,
+    /// A read may give something.
+    pub readable: bool,
+    /// A write may take something.
+    pub writable: bool,
+    /// No more comes.
+    pub ended: bool,
+    /// Nothing more is written.
+    pub shut: bool,
+    /// It is to be looked at in this round.
+    pub hot: bool,
+    /// How many requests were taken of it in this round.
+    pub taken: u32,
+    /// The next one had to wait in this round, for a command that was under way.
+    pub held: bool,
+    /// It failed in this round.
+    pub failed: bool,
+    /// What keys are wanted for.
+    pub(crate) lock: Option<Lock>,
+}
+
+impl Door {
+    /// The door of a new connection.
+    pub(crate) fn new(stream: TcpStream, from: SocketAddr, lock: Option<Lock>) -> Door {
+        Door {
+            stream,
+            from,
+            readable: true,
+            writable: true,
+            ended: false,
+            shut: false,
+            hot: true,
+            taken: 0,
+            held: false,
+            failed: false,
+            lock,
+        }
+    }
+
+    /// Whether its client has shown no key for so many milliseconds, or lives too long on one.
+    pub fn is_over(&self, millis: u64, now: u64) -> bool {
+        match &self.lock {
+            Some(lock) => lock.is_over(millis, now),
+            None => false,
+        }
+    }
+
+    /// Whether something waits to be written.
+    pub fn waits(&self, table: &Connections, slot: usize) -> bool {
+        let is_ready = match &self.lock {
+            Some(lock) => lock.waits(),
+            None => false,
+        };
+        is_ready || !table.waiting(slot).is_empty()
+    }
+}
+
+/// Reads once into a buffer. How many octets came, and `None` where the connection failed.
+fn read_some(door: &mut Door, buffer: &mut [u8; PIECE]) -> Option<usize>
+    ensures { IfSome result (λ count. count ≤ 16384) }
+{
+    match door.stream.read(buffer) {
+        Ok(0) => {
+            door.ended = true;
+            Some(0)
+        }
+        Ok(count) => Some(count),
+        Err(error) if error.kind() == ErrorKind::WouldBlock => {
+            door.readable = false;
+            Some(0)
+        }
+        Err(error) if error.kind() == ErrorKind::Interrupted => Some(0),
+        Err(_) => None,
+    }
+}
+
+/// Whether a read is worth while: of a connection that was refused all is read, and dropped.
+fn may_read(table: &Connections, door: &Door, slot: usize) -> bool {
+    if !door.readable || door.ended {
+        return false;
+    }
+    match table.stage(slot) {
+        Stage::Open => table.reads(slot),
+        Stage::Refused => true,
+        Stage::Closed => false,
+    }
+}
+
+/// Hands on octets that came: as they are, or as the lock of the door lets them through. `false`
+/// where the connection failed.
+fn take_in(
+    table: &mut Connections,
+    door: &mut Door,
+    keys: &[Key],
+    slot: usize,
+    piece: &[u8],
+    now: u64,
+) -> bool
+    ensures { IsQuiet table.old table.new }
+{
+    match &mut door.lock {
+        Some(lock) => lock.push(piece) && lock.hand_on(table, keys, slot, now) != HandOver::Failed,
+        None => piece.is_empty() || arrive(table, slot, piece, now),
+    }
+}
+
+/// Reads once, if there is room, and hands on what has come. `false` where the connection failed.
+pub fn read_once(
+    table: &mut Connections,
+    door: &mut Door,
+    keys: &[Key],
+    slot: usize,
+    buffer: &mut [u8; PIECE],
+    now: u64,
+) -> bool
+    ensures { IsQuiet table.old table.new }
+{
+    let mut count = 0;
+    if may_read(table, door, slot) {
+        let Some(read) = read_some(door, buffer) else {
+            return false;
+        };
+        count = read;
+    }
+    if table.stage(slot) == Stage::Refused {
+        return true;
+    }
+    take_in(table, door, keys, slot, &buffer[..count], now)
+}
+
+/// Writes octets once. How many were taken, and `None` where the connection failed. All that a loop
+/// writes on a socket passes here, and so whoever writes has a service that has kept on disk what
+/// followed from all requests that it answered.
+pub fn write_some<S: Service>(
+    _kept: &S,
+    stream: &mut TcpStream,
+    writable: &mut bool,
+    octets: &[u8],
+) -> Option<usize>
+    requires { S.is_kept _kept.now }
+    ensures { IfSome result (λ count. count ≤ length octets.now) }
+{
+    match stream.write(octets) {
+        Ok(count) => Some(count),
+        Err(error) if error.kind() == ErrorKind::WouldBlock => {
+            *writable = false;
+            Some(0)
+        }
+        Err(error) if error.kind() == ErrorKind::Interrupted => Some(0),
+        Err(_) => None,
+    }
+}
+
+/// Writes once what waits on a slot. `false` where the connection failed.
+fn write_plain<S: Service>(
+    table: &mut Connections,
+    service: &S,
+    door: &mut Door,
+    slot: usize,
+    now: u64,
+) -> bool
+    requires { S.is_kept service.now }
+    ensures { IsQuiet table.old table.new }
+{
+    if table.waiting(slot).is_empty() {
+        return true;
+    }
+    let octets = table.waiting(slot);
+    match write_some(service, &mut door.stream, &mut door.writable, octets) {
+        Some(count) => leave(table, slot, count, now),
+        None => false,
+    }
+}
+
+/// Writes once what is ready in the lock of a door.
+fn write_ready<S: Service>(service: &S, door: &mut Door) -> bool
+    requires { S.is_kept service.now }
+{
+    let Some(lock) = &mut door.lock else {
+        return true;
+    };
+    if !lock.waits() {
+        return true;
+    }
+    match write_some(service, &mut door.stream, &mut door.writable, lock.octets()) {
+        Some(count) => {
+            lock.written(count);
+            true
+        }
+        None => false,
+    }
+}
+
+/// Seals what waits on a slot. `false` where it can't be.
+fn seal_some(table: &mut Connections, door: &mut Door, slot: usize, now: u64) -> bool
+    ensures { IsQuiet table.old table.new }
+{
+    match &mut door.lock {
+        Some(lock) => lock.seal(table, slot, now),
+        None => true,
+    }
+}
+
+/// Writes once, if something waits. `false` where the connection failed.
+fn write_once<S: Service>(
+    table: &mut Connections,
+    service: &S,
+    door: &mut Door,
+    slot: usize,
+    now: u64,
+) -> bool
+    requires { S.is_kept service.now }
+    ensures { IsQuiet table.old table.new }
+{
+    if !door.writable {
+        return true;
+    }
+    if door.lock.is_none() {
+        return write_plain(table, service, door, slot, now);
+    }
+    seal_some(table, door, slot, now) && write_ready(service, door)
+}
+
+/// Hands on what the lock of a door still lets through, now that there may be room.
+fn hand_on_rest(
+    table: &mut Connections,
+    door: &mut Door,
+    keys: &[Key],
+    slot: usize,
+    now: u64,
+) -> HandOver
+    ensures { IsQuiet table.old table.new }
+{
+    match &mut door.lock {
+        Some(lock) => lock.hand_on(table, keys, slot, now),
+        None => HandOver::Nothing,
+    }
+}
+
+/// Ends a round of a connection: what its lock still lets through is handed on, and what waits is
+/// written once. Whether octets were handed on, and `None` where the connection failed.
+pub fn finish<S: Service>(
+    table: &mut Connections,
+    service: &S,
+    door: &mut Door,
+    keys: &[Key],
+    slot: usize,
+    now: u64,
+) -> Option<bool>
+    requires { S.is_kept service.now }
+    ensures { IsQuiet table.old table.new }
+{
+    let handed = hand_on_rest(table, door, keys, slot, now);
+    if handed == HandOver::Failed {
+        return None;
+    }
+    if !write_once(table, service, door, slot, now) {
+        return None;
+    }
+    Some(handed == HandOver::Some)
+}
+
+/// Writes what a lock has ready, before a connection is closed that failed: why no key was taken.
+pub fn write_last<S: Service>(service: &S, door: &mut Door)
+    requires { S.is_kept service.now }
+{
+    let _written = write_ready(service, door);
+}
+
+/// Ends what is written on a connection that was refused, once all has left. The system would else
+/// take the fault's answer away where the client has sent more.
+pub fn shut_if_done(table: &Connections, door: &mut Door, slot: usize) {
+    if door.shut || table.stage(slot) != Stage::Refused || door.waits(table, slot) {
+        return;
+    }
+    door.shut = true;
+    let _shut = door.stream.shutdown(Shutdown::Write);
+}

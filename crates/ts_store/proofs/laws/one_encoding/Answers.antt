@@ -1,5 +1,0 @@
-use Rattle.ts_store.proofs.OneEncoding.{one_command}
-use Rattle.ts_store.proofs.laws.one_encoding.Goals as goal
-
-pub returns-clause-command : goal.returns-clause-command
-returns-clause-command c = one_command
