@@ -2,8 +2,8 @@
 
 ghost use Rattle.std.specs.Prelude.{◌<◌};
 
-use crate::route::{ROUTES, Route};
 use std::alloc::{AllocError, Global};
+use ts_api::{ROUTES, Route};
 use ts_page::PeerLine;
 use ts_question::Reply;
 use ts_render::valid_in;

@@ -3,16 +3,13 @@
 ghost use Rattle.std.specs.Prelude.{IfOk, map, option_map};
 ghost use Rattle.ts_http.specs.Request.{field_in};
 ghost use Rattle.ts_site.specs.inside.Commanding.{BeginsCommand, IsFirst, IsRefusal};
-ghost use Rattle.ts_site.specs.inside.Request.{bearer_in};
+ghost use Rattle.ts_api.specs.Request.{bearer_in};
 
-use crate::frames::{outcome_frame, submit_frame};
 use crate::next::{Next, Waits, ask};
 use crate::refusing::{error, node_failed};
-use crate::request::{Bearer, bearer_in, query_of};
-use crate::response::Response;
-use crate::scene::Scene;
 use std::alloc::{AllocError, Global};
 use ts_access::{Key, may};
+use ts_api::{Bearer, Response, Scene, bearer_in, outcome_frame, query_of, submit_frame};
 use ts_command::{Command, Outcome};
 use ts_form::{command_id_of, form_pairs};
 use ts_hmac::is_same_tag;

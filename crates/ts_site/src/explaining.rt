@@ -1,14 +1,14 @@
 //! The page's form: a verdict, and why a chain is not valid that no search found valid.
 
-use crate::asking::{AskedQuestion, asked_of, question_from, wanted_in};
 use crate::board::Board;
-use crate::frames::question_frame;
 use crate::listing::rows_question;
 use crate::next::{Next, Waits, ask};
 use crate::refusing::{no_question_page, problem};
-use crate::response::{Content, Response};
 use crate::verifying::time_kept;
 use std::alloc::{AllocError, Global};
+use ts_api::{
+    AskedQuestion, Content, Response, asked_of, question_frame, question_from, wanted_in,
+};
 use ts_cert::Cert;
 use ts_form::{FormFault, Pair, form_pairs};
 use ts_http::Request;

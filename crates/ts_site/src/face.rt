@@ -3,14 +3,10 @@
 ghost use Rattle.std.specs.Prelude.{◌≡◌, ◌≤◌, length};
 
 use crate::board::Board;
-use crate::heading::{headers_of, phrase_of};
 use crate::next::{Next, Pending};
-use crate::request::route_in;
-use crate::response::Response;
-use crate::route::Route;
-use crate::scene::Scene;
 use crate::site::{begin, go_on};
 use std::alloc::{AllocError, Global};
+use ts_api::{Response, Route, Scene, headers_of, phrase_of, route_in};
 use ts_http::{Connection, HttpFault, MAX_HELD, Progress};
 use ts_wire::Frame;
 

@@ -1,13 +1,12 @@
 //! What the store holds, for the metrics.
 
 use crate::board::{Board, Summary};
-use crate::frames::question_frame;
 use crate::listing::rows_question;
 use crate::metrics::metrics_text;
 use crate::next::{Next, Waits, ask};
 use crate::refusing::node_failed_line;
-use crate::response::{Content, Response};
 use std::alloc::{AllocError, Global};
+use ts_api::{Content, Response, question_frame};
 use ts_question::{AnchorRow, CrlRow, Reply};
 use ts_wire::Frame;
 

@@ -16,42 +16,32 @@
 //! - [`Scene`]: what a request finds: the time, the node's number and keys. [`Board`]: what a node
 //!   shows: its peers, and counts.
 //!
-//! What is asked of the node has clauses, by the crate's own functions: a path is of one route
-//! (`specs/inside/Routes`); `/v1/verify`, `/v1/check` and the form ask the question that the query
-//! and the body say, or are refused (`question_in`, `question_from`: `specs/inside/Asking`);
-//! `/v1/commands` hands on a command only from whoever shows the secret of a key that may submit
-//! it, and is refused with 401 or 403 else (`begin_command`: `specs/inside/Commanding`). Out of
-//! memory is the only error, and [`HttpFault`].
+//! Which path a request asks for and what it asks is `ts_api`'s. `/v1/commands` hands on a command
+//! only from whoever shows the secret of a key that may submit it, and is refused with 401 or 403
+//! else (`begin_command`: `specs/inside/Commanding`). Out of memory is the only error, and
+//! [`HttpFault`].
 //!
 //! # Not promised
 //!
 //! Which response an answer of the node leads to, and what counts say: test_http, and curl by hand.
 #![tactic(auto)]
 
-mod asking;
 mod board;
 mod commanding;
 mod explaining;
 mod face;
-mod frames;
 mod gauging;
-mod heading;
 mod listing;
 mod metrics;
 mod next;
 mod paging;
 mod refusing;
-mod request;
-mod response;
-mod route;
-mod scene;
 mod site;
 mod status;
 mod verifying;
-mod words;
 
 pub use board::{Board, Label, Metric, Turns};
 pub use face::Face;
-pub use scene::Scene;
+pub use ts_api::Scene;
 pub use ts_http::{HttpFault, MAX_BODY};
 pub use ts_page::PeerLine;

@@ -1,12 +1,10 @@
 //! What the store holds and the commands that it took, for programs.
 
-use crate::frames::question_frame;
 use crate::next::{Next, RowsAsked, Waits, ask};
 use crate::refusing::{error, fault_error, node_failed};
-use crate::request::query_of;
-use crate::response::{Content, Response};
 use crate::verifying::time_kept;
 use std::alloc::{AllocError, Global};
+use ts_api::{Content, Response, query_of, question_frame};
 use ts_form::{RowsWanted, form_pairs};
 use ts_http::Request;
 use ts_json::{Member, Plain, page_text};

@@ -3,11 +3,9 @@
 ghost use Rattle.std.specs.Prelude.{◌≡◌};
 ghost use Rattle.ts_site.specs.declared.next.Next.TheVariants as nexts;
 
-use crate::asking::AskedQuestion;
 use crate::explaining::Explaining;
 use crate::gauging::Gauging;
-use crate::response::Response;
-use crate::route::Route;
+use ts_api::{AskedQuestion, Response, Route};
 use ts_form::Pair;
 
 /// What comes next.

@@ -1,15 +1,12 @@
 //! The page of the store.
 
 use crate::board::Board;
-use crate::frames::question_frame;
 use crate::listing::rows_question;
 use crate::next::{HomeAsked, Next, Waits, ask};
 use crate::refusing::problem;
-use crate::request::query_of;
-use crate::response::{Content, Keeps, Response};
 use crate::status::ask_status;
-use crate::words::fault_text;
 use std::alloc::{AllocError, Global};
+use ts_api::{Content, Keeps, Response, fault_text, query_of, question_frame};
 use ts_form::{RowsWanted, form_pairs};
 use ts_http::Request;
 use ts_page::{SCRIPT, STYLE, StoreView, store_page};

@@ -1,13 +1,10 @@
 //! Why a request is not answered as it asks.
 
 ghost use Rattle.std.specs.Prelude.{IfOk, codes};
-ghost use Rattle.ts_site.specs.inside.Response.{IsError, IsLine};
+ghost use Rattle.ts_api.specs.Response.{IsError, IsLine};
 
-use crate::asking::NoQuestion;
-use crate::response::{Content, Response};
-use crate::route::Route;
-use crate::words::{LIMITS, fault_text};
 use std::alloc::{AllocError, Global};
+use ts_api::{Content, LIMITS, NoQuestion, Response, Route, fault_text};
 use ts_form::{FormFault, Pair};
 use ts_json::{Member, Plain};
 use ts_page::problem_page;

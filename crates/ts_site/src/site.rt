@@ -8,13 +8,10 @@ use crate::listing::{begin_rows, end_rows};
 use crate::next::{Next, Pending, Waits};
 use crate::paging::{begin_home, end_home, go_on_home, script, style};
 use crate::refusing::not_allowed;
-use crate::request::route_in;
-use crate::response::Response;
-use crate::route::{Method, Route, method_of};
-use crate::scene::Scene;
 use crate::status::{ask_status, end_health, end_identity, end_prefix};
 use crate::verifying::{begin_verdict, end_verdict};
 use std::alloc::{AllocError, Global};
+use ts_api::{Method, Response, Route, Scene, method_of, route_in};
 use ts_http::Request;
 use ts_wire::Frame;
 

@@ -1,10 +1,9 @@
 //! What a node says of itself.
 
-use crate::frames::{identify_frame, status_frame};
 use crate::next::{Next, Waits, ask};
 use crate::refusing::{node_failed, node_failed_line};
-use crate::response::Response;
 use std::alloc::{AllocError, Global};
+use ts_api::{Response, identify_frame, status_frame};
 use ts_json::{Member, Plain};
 use ts_wire::Frame;
 

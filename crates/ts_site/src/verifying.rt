@@ -1,13 +1,12 @@
 //! Verdicts over HTTP, for programs.
 
-use crate::asking::{AskedQuestion, NoQuestion, question_in};
 use crate::board::Board;
-use crate::frames::question_frame;
 use crate::next::{Next, Waits, ask};
 use crate::refusing::{no_question, node_failed};
-use crate::response::{Content, Keeps, Response};
-use crate::route::Route;
 use std::alloc::{AllocError, Global};
+use ts_api::{
+    AskedQuestion, Content, Keeps, NoQuestion, Response, Route, question_frame, question_in,
+};
 use ts_http::Request;
 use ts_json::answer_text;
 use ts_question::{Answer, Reply};

@@ -10,8 +10,8 @@ use Rattle.ts_wire.specs.declared.frame.Frame.TheVariants.{Submit}
 use Rattle.ts_site.specs.declared.next.Next.{Next}
 use Rattle.ts_site.specs.declared.next.Next.TheVariants.{Tell, Ask}
 use Rattle.ts_site.specs.declared.next.Waits.TheVariants as waits
-use Rattle.ts_site.specs.declared.request.Bearer.{Bearer}
-use Rattle.ts_site.specs.declared.request.Bearer.TheVariants.{Secret}
+use Rattle.ts_api.specs.declared.request.Bearer.{Bearer}
+use Rattle.ts_api.specs.declared.request.Bearer.TheVariants.{Secret}
 
 -- the first key that has the secret, if one has
 abbrev pub IsFirst : List Key → List ℕ → Option Key → Type 0

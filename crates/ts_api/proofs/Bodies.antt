@@ -1,0 +1,81 @@
+-- Why a request asks no question, and what it asks, by the steps of reading it.
+use Rattle.std.proofs.Common.{◌≡◌, ◌∷◌, ℕ, ℤ, List, true, false, nat_eq, refl, arith, Result, Ok, Err, IfOk, IfErr, inl, inr}
+use Rattle.std.specs.Char.{is_ascii_whitespace}
+use Rattle.std.proofs.lemmas.Bool.Decides.{nat_tests}
+use Rattle.ts_form.specs.Pairs.{NamedValue}
+use Rattle.ts_form.specs.Said.{IsUnsaidText}
+use Rattle.ts_form.specs.declared.fault.FormFault.{FormFault}
+use Rattle.ts_form.specs.declared.fault.FormFault.TheVariants as faults
+use Rattle.ts_form.specs.declared.wanted.WantedFields.{WantedFields}
+use Rattle.ts_api.specs.Asking.{BodyRefused, IsAsked, IsAskedBy, IsAskedFrom, PairsRefused, RequestRefused, Says, SaysBody, SaysNoJson, SaysPairs, is_json, pairs_in}
+use Rattle.ts_api.specs.declared.asking.AskedQuestion.{AskedQuestion}
+use Rattle.ts_api.specs.declared.asking.NoQuestion.{NoQuestion}
+use Rattle.ts_api.specs.declared.asking.NoQuestion.TheVariants.{Form, Limits}
+
+no_json : (body : List ℕ) (fault : FormFault) → IsUnsaidText body fault → SaysNoJson body fault
+no_json body faults.Memory unsaid = unsaid
+no_json body faults.Json unsaid = λ pairs says. unsaid pairs says.1
+no_json body faults.Name unsaid = unsaid
+no_json body (faults.Value field) unsaid = unsaid
+no_json body (faults.Twice field) unsaid = unsaid
+
+pub unsaid_json : {T : Type 0} (r : Result T FormFault) (body : List ℕ) → IfErr r (IsUnsaidText body) → IfErr r (SaysNoJson body)
+unsaid_json (Ok pairs) body unsaid = unsaid
+unsaid_json (Err fault) body unsaid = no_json body fault unsaid
+
+pub query_refused : (target body : List ℕ) (fault : FormFault) → PairsRefused (pairs_in target) fault → RequestRefused target body fault
+query_refused target body faults.Memory refused = tt
+query_refused target body faults.Json refused = inl refused
+query_refused target body faults.Name refused = inl refused
+query_refused target body (faults.Value field) refused = inl refused
+query_refused target body (faults.Twice field) refused = inl refused
+
+refused_in_body : (target body : List ℕ) (mid : WantedFields) (fault : FormFault) → SaysPairs (pairs_in target) mid → BodyRefused body mid fault → RequestRefused target body fault
+refused_in_body target body mid faults.Memory says refused = tt
+refused_in_body target body mid faults.Json says refused = inr (mid, says, refused)
+refused_in_body target body mid faults.Name says refused = inr (mid, says, refused)
+refused_in_body target body mid (faults.Value field) says refused = inr (mid, says, refused)
+refused_in_body target body mid (faults.Twice field) says refused = inr (mid, says, refused)
+
+pub body_refused : {T : Type 0} (r : Result T FormFault) (target body : List ℕ) (mid : WantedFields)
+    → SaysPairs (pairs_in target) mid → IfErr r (BodyRefused body mid)
+    → IfErr r (RequestRefused target body)
+body_refused (Ok wanted) target body mid says refused = refused
+body_refused (Err fault) target body mid says refused = refused_in_body target body mid fault says refused
+
+pub body_says : {E : Type 0} (r : Result WantedFields E) (target body : List ℕ) (mid : WantedFields) → SaysPairs (pairs_in target) mid → IfOk r (SaysBody body mid) → IfOk r (Says target body)
+body_says (Ok wanted) target body mid says is = (mid, says, is)
+body_says (Err e) target body mid says is = is
+
+pub asked_from : {E : Type 0} (r : Result (Result AskedQuestion NoQuestion) E)
+    (pairs : List NamedValue) (wanted : WantedFields) (now : ℤ) → SaysPairs pairs wanted
+    → IfOk r (IsAsked wanted now) → IfOk r (IsAskedFrom pairs now)
+asked_from (Ok (Ok asked)) pairs wanted now says is = (wanted, says, is)
+asked_from (Ok (Err Limits)) pairs wanted now says is = (wanted, says, is)
+asked_from (Ok (Err (Form fault))) pairs wanted now says is = absurd is
+asked_from (Err e) pairs wanted now says is = is
+
+pub asked_by : {E : Type 0} (r : Result (Result AskedQuestion NoQuestion) E) (target body : List ℕ)
+    (wanted : WantedFields) (now : ℤ) → Says target body wanted → IfOk r (IsAsked wanted now)
+    → IfOk r (IsAskedBy target body now)
+asked_by (Ok (Ok asked)) target body wanted now says is = (wanted, says, is)
+asked_by (Ok (Err Limits)) target body wanted now says is = (wanted, says, is)
+asked_by (Ok (Err (Form fault))) target body wanted now says is = absurd is
+asked_by (Err e) target body wanted now says is = is
+
+-- the first octet of a body decides, unless it is a blank
+pub begins : (octet : ℕ) (octets : List ℕ) → octet ≡ 123 → is_json (octet ∷ octets) ≡ true
+unfolding is_json
+begins octet octets is = rw is refl
+
+pub ends : (octet : ℕ) (octets : List ℕ) → (octet ≡ 123 → ⊥) → is_ascii_whitespace octet ≡ false → is_json (octet ∷ octets) ≡ false
+unfolding is_json
+ends octet octets other blank =
+    let no : nat_eq octet 123 ≡ false = grind (arith, nat_tests) in
+    rw (no, blank) refl
+
+pub goes_on : (octet : ℕ) (octets : List ℕ) → (octet ≡ 123 → ⊥) → is_ascii_whitespace octet ≡ true → is_json (octet ∷ octets) ≡ is_json octets
+unfolding is_json
+goes_on octet octets other blank =
+    let no : nat_eq octet 123 ≡ false = grind (arith, nat_tests) in
+    rw (no, blank) refl

@@ -1,0 +1,4 @@
+pub mod Asking
+pub mod Request
+pub mod Response
+pub mod Routes

@@ -1,7 +1,0 @@
--- What is left begins as the body does.
-use Rattle.std.proofs.Common.{◌≡◌, drop}
-use Rattle.ts_site.specs.inside.Asking.{is_json}
-use Rattle.ts_site.proofs.asking.is_json.Given as goal
-
-abbrev pub invariant-loop-octet : goal.invariant-loop-octet
-invariant-loop-octet l = is_json (drop l.octet-index l.body) ≡ is_json l.body
