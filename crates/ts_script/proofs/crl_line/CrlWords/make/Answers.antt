@@ -1,10 +1,16 @@
 -- What is made is kept, unless its name is taken, or it is refused.
 use Rattle.std.proofs.Common.{◌∙◌, subst, sym}
+use Rattle.std.proofs.lemmas.Result.{err_from_is_err_and}
 use Rattle.ts_script.specs.Known.{known_in, thing_in, thing_named}
 use Rattle.ts_script.specs.CrlLine.{IsNoCrl}
 use Rattle.ts_script.proofs.Answering.{found_some, found_none}
 use Rattle.ts_script.proofs.OneList.{crl_long, crl_unreadable, crl_stands, long_crl, one_crl_made}
 use Rattle.ts_script.proofs.crl_line.CrlWords.make.Goals as goal
+
+pub returns-in_err-made-clause-fault : goal.returns-in_err-made-clause-fault
+returns-in_err-made-clause-fault c =
+    let p = err_from_is_err_and c.from_residual.result c.from_residual.ensures.1 in
+    rw (p.1, p.2) (c.in_err-made.ensures.fault (known_in c.args.known.now))
 
 pub returns-in-Err-TooLong-clause-fault : goal.returns-in-Err-TooLong-clause-fault
 returns-in-Err-TooLong-clause-fault c =
