@@ -90,7 +90,8 @@ pub(crate) fn reply_of_search(
     answer: SearchAnswer<'_>,
 ) -> Result<Reply, AllocError>
     requires { IsAmong (length anchors.now) answer }
-    ensures said { IfOk result (λ reply. SaysSearch (map borrowed_in anchors.now) answer.entry reply) }
+    ensures said { IfOk result (λ reply.
+        SaysSearch (map borrowed_in anchors.now) answer.entry reply) }
     ensures within { IfOk result InRange }
 {
     match answer {

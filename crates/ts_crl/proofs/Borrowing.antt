@@ -185,7 +185,8 @@ list-is first octets w =
 pub read-list : (first : Option CertFault) (octets : List ℕ) → (w : WasRead first octets) → list_of octets ≡ unlocated_list w.list
 read-list first octets w = ap (λ (r : Result CertificateList ListFault). result_unwrap_or r no_list) (list-is first octets w)
 
-pub borrowed-is : (first : Option CertFault) (octets borrowed : List ℕ) → borrowed ≡ octets → WasRead first octets → (l : LocatedList) → crl_whole_of borrowed ≡ Ok l → crl_of octets ≡ Ok (unlocated_list l)
+pub borrowed-is : (first : Option CertFault) (octets borrowed : List ℕ) → borrowed ≡ octets → WasRead first octets
+  → (l : LocatedList) → crl_whole_of borrowed ≡ Ok l → crl_of octets ≡ Ok (unlocated_list l)
 borrowed-is first octets borrowed same w l read =
     list-is first octets w ∙ ap (λ (x : LocatedList). Ok (unlocated_list x)) (ok_is {E = CertFault} w.list l (sym (whole-kept octets w.list w.shape) ∙ (ap crl_whole_of (sym same) ∙ read)))
 

@@ -84,8 +84,7 @@ impl<'a> Ext<'a> {
     /// # Errors
     ///
     /// The first rule that the value breaks, with its place: its header and tag, the rules of its
-    /// reader, and
-    /// `Trailing`.
+    /// reader, and `Trailing`.
     pub fn read(holder: Holder, oid: OidRef<'a>, octets: Element<'a>) -> Result<Ext<'a>, Fault>
         ensures found { IfOk result (λ x. IsExt
             (known_at holder oid.entry.content.now) octets.entry.content.now (ext_in x)) }

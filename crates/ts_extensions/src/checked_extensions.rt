@@ -41,8 +41,7 @@ impl<'a> CheckedExtensions<'a> {
     /// # Errors
     ///
     /// The first rule of the shape that is broken, with its place: the header and the tag of the
-    /// SEQUENCE, the rules of
-    /// `Extensions::read`, and `Trailing`.
+    /// SEQUENCE, the rules of `Extensions::read`, and `Trailing`.
     pub fn read_explicit(
         element: Element<'a>,
         holder: Holder,

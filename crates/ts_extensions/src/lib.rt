@@ -44,7 +44,7 @@
 //!
 //! Only tested: lists by hand, and each refusal with its place (as a check of the definitions).
 //! Neither proved nor tested: the time that `broken_rule` takes, which is that of `first_repeated`
-//! (`ts_name`); `Debug` text.
+//! (`ts_shape`); `Debug` text.
 #![tactic(auto)]
 
 mod checked_extensions;
