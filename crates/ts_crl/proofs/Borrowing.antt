@@ -186,7 +186,7 @@ pub read-list : (first : Option CertFault) (octets : List ℕ) → (w : WasRead 
 read-list first octets w = ap (λ (r : Result CertificateList ListFault). result_unwrap_or r no_list) (list-is first octets w)
 
 pub borrowed-is : (first : Option CertFault) (octets borrowed : List ℕ) → borrowed ≡ octets → WasRead first octets
-  → (l : LocatedList) → crl_whole_of borrowed ≡ Ok l → crl_of octets ≡ Ok (unlocated_list l)
+    → (l : LocatedList) → crl_whole_of borrowed ≡ Ok l → crl_of octets ≡ Ok (unlocated_list l)
 borrowed-is first octets borrowed same w l read =
     list-is first octets w ∙ ap (λ (x : LocatedList). Ok (unlocated_list x)) (ok_is {E = CertFault} w.list l (sym (whole-kept octets w.list w.shape) ∙ (ap crl_whole_of (sym same) ∙ read)))
 

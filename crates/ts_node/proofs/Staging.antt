@@ -113,7 +113,7 @@ module _ {C O Q : Type 0} (store : Store C O (List C) Q (List C)) (config : Conf
           ∙ ap (λ k. inputs_of config.me sent event (k + 1) (now.messages.items ++ plan.messages.items)) looked
           ∙ inputs_own config.me sent event now.messages.items plan.messages.items now.looked m within is test in
           let there : slice_get e.messages now.looked ≡ Some m =
-            subst (λ (f : Effect C). slice_get f.messages now.looked ≡ Some m) (sym was.effect) (get_is now.messages.items now.looked m within is) in
+          subst (λ (f : Effect C). slice_get f.messages now.looked ≡ Some m) (sym was.effect) (get_is now.messages.items now.looked m within is) in
           let so : next store config node sent e (world.Deliver (length sent + now.looked)) ≡ step =
           delivered store config node sent e now.looked m there ∙ ap (λ (f : Effect C). world.on_message store config (kept ++ f.facts) f.volatile m) was.effect in
           record {
