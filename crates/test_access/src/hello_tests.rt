@@ -33,13 +33,17 @@ fn greeting_of(
 fn says_hello_in_octets(rt: HostRuntime) -> Result<(), Fail> {
     let alloc = rt.alloc();
     let server = Challenger::new(alloc, CHALLENGE);
+    let challenge = server.hello();
+    drop(server);
     let client = Greeter::new(alloc, GREETING);
+    let greeting = client.hello();
+    drop(client);
     let mut hello = Vec::from_slice(alloc, CHALLENGE_HEAD)?;
     hello.extend_from_slice(&CHALLENGE)?;
-    assert_eq!(rt; server.hello().as_slice(), hello.as_slice());
+    assert_eq!(rt; challenge.as_slice(), hello.as_slice());
     let mut hello = Vec::from_slice(alloc, GREETING_HEAD)?;
     hello.extend_from_slice(&NONCE)?;
-    assert_eq!(rt; client.hello().as_slice(), hello.as_slice());
+    assert_eq!(rt; greeting.as_slice(), hello.as_slice());
     Ok(())
 }
 
@@ -62,20 +66,27 @@ fn names_what_is_no_greeting(rt: HostRuntime) -> Result<(), Fail> {
     Ok(())
 }
 
-/// What the server lets through of ten contents that a client seals right behind its greeting.
-fn talk(alloc: Global) -> Result<Vec<u8>, GuardFault> {
-    let mut out = Vec::new(alloc);
-    let mut server = Challenger::new(alloc, CHALLENGE);
+/// What a client sends that has heard a server's hello: its greeting, and right behind it the ten
+/// contents, sealed.
+fn sent_behind(alloc: Global, hello: &[u8]) -> Result<Vec<u8>, GuardFault> {
     let mut client = Greeter::new(alloc, GREETING);
     let mut sent = Vec::from_slice(alloc, &client.hello())?;
-    client.push(&server.hello())?;
+    client.push(hello)?;
     let Ok(Some(challenge)) = client.challenge() else {
-        return Ok(out);
+        return Ok(sent);
     };
     let mut mine = client.begin(challenge, &KEY);
     for content in CONTENTS {
         mine.sealer.seal(content, &mut sent)?;
     }
+    Ok(sent)
+}
+
+/// What the server lets through of ten contents that a client seals right behind its greeting.
+fn talk(alloc: Global) -> Result<Vec<u8>, GuardFault> {
+    let mut out = Vec::new(alloc);
+    let mut server = Challenger::new(alloc, CHALLENGE);
+    let sent = sent_behind(alloc, &server.hello())?;
     server.push(&sent)?;
     let Ok(Some(greeting)) = server.greeting() else {
         return Ok(out);

@@ -9,40 +9,76 @@ use std::test::Fail;
 use ts_access::{Entrance, EntranceFault, Role, Visitor};
 use ts_guard::{GuardFault, HelloFault};
 
-/// The client's part of a session, and what both sides have got at its end.
-fn talk(alloc: Global) -> Result<(Vec<u8>, Vec<u8>, Option<Role>), EntranceFault> {
-    let mut server = Entrance::new(alloc, 1, CHALLENGE);
-    let mut client = Visitor::new(alloc, 3, [3; 32], NONCE);
-    let (mut asked, mut answered) = (Vec::new(alloc), Vec::new(alloc));
-    let mut out = Vec::new(alloc);
-    // Before the hellos nothing is sealed.
-    if client.seal(b"no", &mut out)? || server.seal(b"no", &mut out)? || !out.is_empty() {
+/// Each side hears the other's hello. Before that nothing is sealed.
+fn greet(
+    client: &mut Visitor,
+    server: &mut Entrance,
+    out: &mut Vec<u8>,
+) -> Result<(), EntranceFault> {
+    if client.seal(b"no", out)? || server.seal(b"no", out)? || !out.is_empty() {
         return Err(EntranceFault::UnknownKey);
     }
     client.push(&server.hello())?;
     client.take()?;
     server.push(&client.hello())?;
-    for content in REQUESTS {
-        out.truncate(0);
-        client.seal(content, &mut out)?;
-        server.push(&out)?;
-        drain(&mut server, &mut asked)?;
-        out.truncate(0);
-        server.seal(b"answer", &mut out)?;
-        client.push(&out)?;
-        if let Some(octets) = client.take()? {
-            answered.extend_from_slice(&octets)?;
-        }
+    Ok(())
+}
+
+/// The client asks, and is answered. What each has got stands behind what it had.
+fn exchange(
+    client: &mut Visitor,
+    server: &mut Entrance,
+    content: &[u8],
+    asked: &mut Vec<u8>,
+    answered: &mut Vec<u8>,
+    out: &mut Vec<u8>,
+) -> Result<(), EntranceFault> {
+    out.truncate(0);
+    client.seal(content, out)?;
+    server.push(out)?;
+    drain(server, asked)?;
+    out.truncate(0);
+    server.seal(b"answer", out)?;
+    client.push(out)?;
+    if let Some(octets) = client.take()? {
+        answered.extend_from_slice(&octets)?;
     }
-    Ok((asked, answered, server.role()))
+    Ok(())
+}
+
+/// A session from the hellos to the last answer.
+fn talk(
+    client: &mut Visitor,
+    server: &mut Entrance,
+    asked: &mut Vec<u8>,
+    answered: &mut Vec<u8>,
+    out: &mut Vec<u8>,
+) -> Result<(), EntranceFault> {
+    greet(client, server, out)?;
+    for content in REQUESTS {
+        exchange(client, server, content, asked, answered, out)?;
+    }
+    Ok(())
 }
 
 #[test]
 fn carries_requests_and_answers(rt: HostRuntime) -> Result<(), Fail> {
-    let (asked, answered, role) = match talk(rt.alloc()) {
-        Ok(found) => found,
-        Err(_) => (Vec::new(rt.alloc()), Vec::new(rt.alloc()), None),
-    };
+    let alloc = rt.alloc();
+    let mut server = Entrance::new(alloc, 1, CHALLENGE);
+    let mut client = Visitor::new(alloc, 3, [3; 32], NONCE);
+    let (mut asked, mut answered) = (Vec::new(alloc), Vec::new(alloc));
+    let mut out = Vec::new(alloc);
+    let talked = talk(
+        &mut client,
+        &mut server,
+        &mut asked,
+        &mut answered,
+        &mut out,
+    );
+    let role = server.role();
+    drop(client);
+    drop(server);
+    assert_eq!(rt; talked, Ok(()));
     assert_eq!(rt; asked.as_slice(), ALL);
     assert_eq!(rt; answered.as_slice(), b"answeransweranswer".as_slice());
     assert_eq!(rt; role, Some(Role::Reader));
@@ -122,18 +158,39 @@ const ORDERS: &[(&[usize], usize)] = &[
     (&[0, 9, 1], 1),
 ];
 
+/// A server that has heard a greeting seals a record.
+fn seal_behind(
+    server: &mut Entrance,
+    greeting: &[u8],
+    back: &mut Vec<u8>,
+) -> Result<(), EntranceFault> {
+    server.push(greeting)?;
+    server.take(KEYS)?;
+    server.seal(b"status", back)?;
+    Ok(())
+}
+
+/// A record of the other direction: one of the server that has heard this greeting.
+fn record_back(alloc: Global, greeting: &[u8]) -> Result<Vec<u8>, EntranceFault> {
+    let mut server = Entrance::new(alloc, 1, CHALLENGE);
+    let mut back = Vec::new(alloc);
+    let sealed = seal_behind(&mut server, greeting, &mut back);
+    drop(server);
+    match sealed {
+        Ok(()) => Ok(back),
+        Err(fault) => Err(fault),
+    }
+}
+
 /// What is handed on of records in an order, behind the greeting.
 fn handed_in_order(alloc: Global, order: &[usize]) -> Result<Vec<u8>, EntranceFault> {
     let mut octets = Vec::from_slice(alloc, &greeting(alloc, 2)?)?;
-    let own = records(alloc, 2, CHALLENGE, REQUESTS)?;
-    let old = records(alloc, 2, NONCE, REQUESTS)?;
-    let other = records(alloc, 1, CHALLENGE, REQUESTS)?;
-    let mut server = Entrance::new(alloc, 1, CHALLENGE);
-    server.push(&octets)?;
-    server.take(KEYS)?;
-    let mut back = Vec::new(alloc);
-    server.seal(b"status", &mut back)?;
-    let sets = [own, old, other];
+    let back = record_back(alloc, &octets)?;
+    let sets = [
+        records(alloc, 2, CHALLENGE, REQUESTS)?,
+        records(alloc, 2, NONCE, REQUESTS)?,
+        records(alloc, 1, CHALLENGE, REQUESTS)?,
+    ];
     for place in order {
         let one = sets.get(*place / 3).and_then(|set| set.get(*place % 3));
         octets.extend_from_slice(one.unwrap_or(&back))?;

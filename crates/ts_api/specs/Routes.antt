@@ -1,5 +1,5 @@
 -- What is at a path, and how it may be asked for.
-use Rattle.std.specs.Prelude.{ℕ, Bool, true, false, List, codes, if◌then◌else◌, ◌||◌}
+use Rattle.std.specs.Prelude.{ℕ, Bool, true, false, List, [], ◌∷◌, codes, if◌then◌else◌, ◌||◌}
 use Rattle.std.specs.Str.{bytes_eq}
 use Rattle.ts_api.specs.declared.route.Route.{Route}
 use Rattle.ts_api.specs.declared.route.Route.TheVariants as routes
@@ -32,6 +32,12 @@ route_of path =
     else (if bytes_eq path (codes "/v1/verify") then routes.Verify
     else (if bytes_eq path (codes "/v1/check") then routes.Check
     else program_route path)))))
+
+-- all routes, in the order in which they are counted
+abbrev pub all_routes : List Route
+all_routes = routes.Home ∷ routes.Style ∷ routes.Script ∷ routes.Form ∷ routes.Verify ∷ routes.Check
+    ∷ routes.Store ∷ routes.Log ∷ routes.Commands ∷ routes.Status ∷ routes.Health ∷ routes.Metrics
+    ∷ routes.None ∷ []
 
 -- forms and questions are posted, a command is posted and asked for, all else is got
 abbrev pub methods_of : Route → Methods

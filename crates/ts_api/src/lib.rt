@@ -11,6 +11,7 @@
 //!
 //! - [`route_in`], [`method_of`], [`Route::methods`], [`Methods::takes`]: which path is asked for,
 //!   and by which methods it may be (`specs/Routes`).
+//! - [`Route::path`]: a path that leads to a route. [`Route::place`]: its place in [`Route::all`].
 //! - [`bearer_in`]: which secret the header fields show; [`query_of`]: the query of a target
 //!   (`specs/Request`).
 //! - [`question_in`], [`question_from`], [`asked_of`], [`wanted_in`]: the question that the query
@@ -41,6 +42,6 @@ pub use frames::{identify_frame, outcome_frame, question_frame, status_frame, su
 pub use heading::{headers_of, phrase_of};
 pub use request::{Bearer, bearer_in, query_of, route_in};
 pub use response::{Content, Keeps, Response};
-pub use route::{Method, Methods, ROUTES, Route, method_of};
+pub use route::{Method, Methods, Route, method_of};
 pub use scene::Scene;
 pub use words::{LIMITS, fault_text};

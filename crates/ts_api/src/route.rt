@@ -1,8 +1,8 @@
 //! What there is, by its path.
 
-ghost use Rattle.std.specs.Prelude.{◌≡◌, ◌<◌};
+ghost use Rattle.std.specs.Prelude.{◌≡◌, ◌<◌, Some, slice_get};
 ghost use Rattle.std.specs.Str.{bytes_eq};
-ghost use Rattle.ts_api.specs.Routes.{method_of, methods_of, program_route, route_of};
+ghost use Rattle.ts_api.specs.Routes.{all_routes, method_of, methods_of, program_route, route_of};
 ghost use Rattle.ts_api.specs.Routes.{takes};
 
 /// What there is, by its path.
@@ -148,8 +148,10 @@ impl Route {
         }
     }
 
-    /// The path, as metrics name it.
-    pub fn path(self) -> &'static str {
+    /// The path, as metrics name it: one that leads here.
+    pub fn path(self) -> &'static str
+        ensures { route_of result.now ≡ self }
+    {
         match self {
             Route::Home => "/",
             Route::Style => "/style.css",
@@ -167,9 +169,10 @@ impl Route {
         }
     }
 
-    /// The place of its counts.
+    /// The place among all routes.
     pub fn place(self) -> usize
-        ensures { result < 13 }
+        ensures within { result < 13 }
+        ensures here { slice_get all_routes result ≡ Some self }
     {
         match self {
             Route::Home => 0,
@@ -187,21 +190,25 @@ impl Route {
             Route::None => 12,
         }
     }
-}
 
-/// All routes, in the order of their places.
-pub const ROUTES: [Route; 13] = [
-    Route::Home,
-    Route::Style,
-    Route::Script,
-    Route::Form,
-    Route::Verify,
-    Route::Check,
-    Route::Store,
-    Route::Log,
-    Route::Commands,
-    Route::Status,
-    Route::Health,
-    Route::Metrics,
-    Route::None,
-];
+    /// All routes, in the order of their places.
+    pub fn all() -> [Route; 13]
+        ensures { result ≡ all_routes }
+    {
+        [
+            Route::Home,
+            Route::Style,
+            Route::Script,
+            Route::Form,
+            Route::Verify,
+            Route::Check,
+            Route::Store,
+            Route::Log,
+            Route::Commands,
+            Route::Status,
+            Route::Health,
+            Route::Metrics,
+            Route::None,
+        ]
+    }
+}

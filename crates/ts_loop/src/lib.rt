@@ -34,16 +34,16 @@
 //!   of `ts_links` were made from connections of which none was open, and the server is after
 //!   turns: those of the requests that these moves take, in their order, and what it tried to keep
 //!   between them. So the law `ts_links::each_is_answered` speaks of each connection. `ahead`. All
-//!   that is written on a socket passes `write_some` of `ts_sockets`, whose condition is that what
-//!   was answered is kept.
+//!   that is written on a socket passes `Socket::write` of `ts_sockets`, whose condition is that
+//!   what was answered is kept.
 //! - [`laws::each_speaks_for_itself`]: of the frames that `ts_access` hands on: a peer's key brings
 //!   messages of that peer to this node alone, and only an admin's brings a command.
 //!
 //! # Not promised
 //!
 //! Nothing says what a socket gives or takes: that the octets of a move `Came` are those that came,
-//! or that the lock let through, and those of `Left` reach the client, is the work of `read_once`
-//! and `write_once` of `ts_sockets`. Nor that anything is accepted, read, written or carried, that
+//! or that the lock let through, and those of `Left` reach the client, is the work of `Socket` and
+//! `Door` of `ts_sockets`. Nor that anything is accepted, read, written or carried, that
 //! what HTTP is answered is what the node was asked for it (`web`, `web_door`), that a line brings
 //! only what the node gave, that the system's time is right, or that a round ends soon.
 //! `bench/hostile`, `tools/forge` and `bench/group` try these over the loopback. What is counted.
@@ -51,6 +51,7 @@
 
 mod fault;
 pub mod laws;
+mod listening;
 mod pumping;
 mod reporting;
 mod rounds;

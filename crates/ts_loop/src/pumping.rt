@@ -41,11 +41,11 @@ pub(crate) enum PumpEnd {
 /// What is left to do on an open connection of which so many requests were taken.
 fn left_open(table: &Connections, door: &Door, slot: usize, taken: u32) -> PumpEnd {
     let waits = door.waits(table, slot);
-    let reads = door.readable && !door.ended && table.reads(slot);
-    if taken == TURNS || reads || (waits && door.writable) {
+    let reads = door.socket.is_readable() && table.reads(slot);
+    if taken == TURNS || reads || (waits && door.socket.is_writable()) {
         return PumpEnd::More;
     }
-    if door.ended && !waits {
+    if door.socket.is_ended() && !waits {
         return PumpEnd::Ended;
     }
     PumpEnd::Waits
@@ -53,10 +53,11 @@ fn left_open(table: &Connections, door: &Door, slot: usize, taken: u32) -> PumpE
 
 /// What is left to do on a connection that was refused.
 fn left_refused(door: &Door) -> PumpEnd {
-    if door.shut && door.ended {
+    let socket = &door.socket;
+    if socket.is_shut() && socket.is_ended() {
         return PumpEnd::Ended;
     }
-    if (door.readable && !door.ended) || (!door.shut && door.writable) {
+    if socket.is_readable() || (!socket.is_shut() && socket.is_writable()) {
         return PumpEnd::More;
     }
     PumpEnd::Waits

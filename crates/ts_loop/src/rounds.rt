@@ -37,12 +37,7 @@ pub(crate) fn mark(
             }
         } else if let Some(Some(door)) = doors.get_mut(event.token().0) {
             door.hot = true;
-            if event.is_readable() || event.is_read_closed() || event.is_error() {
-                door.readable = true;
-            }
-            if event.is_writable() || event.is_write_closed() || event.is_error() {
-                door.writable = true;
-            }
+            door.socket.mark(event);
         }
     }
     accepts

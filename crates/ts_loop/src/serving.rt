@@ -10,6 +10,7 @@ ghost use Rattle.ts_links.specs.Calls.{HasReached, IsQuiet};
 ghost use Rattle.ts_links.specs.Turns.{IsServed};
 
 use crate::fault::LoopFault;
+use crate::listening::{ListenFault, add_places, listener_at};
 use crate::pumping::Round;
 use crate::reporting::{FRESH, report_of};
 use crate::rounds::{LISTENER, begin_all, end_all, mark, sweep};
@@ -31,7 +32,7 @@ use ts_node::{Identity, Machine};
 use ts_question::{Answer, Question};
 use ts_serve::Server;
 use ts_sockets::{
-    Accepts, Access, Carrier, Counts, Door, Entry, Group, Limits, PIECE, accept_some,
+    Accepts, Access, Carrier, Counts, Door, Entry, Group, Limits, PIECE, PeerAddress, accept_some,
 };
 
 /// How many milliseconds a round waits at most.
@@ -61,36 +62,28 @@ struct Edge {
     more: bool,
 }
 
-/// The listener at an address, whose calls don't wait. `mio` asks for the longest backlog. Without
-/// keys it is one that this machine alone reaches, unless any is allowed.
-fn listener_at<R: Net>(
+/// The listener at an address, and the events of its connections. Without keys it is an address
+/// that this machine alone reaches, unless any is allowed.
+fn listener_of<R: Net>(
     rt: &R,
     address: &str,
     access: &Access<'_>,
-) -> Result<TcpListener, LoopFault> {
-    let Ok(found) = address.to_socket_addrs(rt) else {
-        return Err(LoopFault::Listen);
+) -> Result<(TcpListener, Poll), LoopFault> {
+    let (mut listener, _) = match listener_at(rt, address, access.is_locked() || access.open) {
+        Ok(found) => found,
+        Err(ListenFault::Address) => return Err(LoopFault::Listen),
+        Err(ListenFault::Unprotected) => return Err(LoopFault::Unprotected),
     };
-    for place in found {
-        if !access.is_locked() && !access.open && !place.ip().is_loopback() {
-            return Err(LoopFault::Unprotected);
-        }
-        if let Ok(listener) = TcpListener::bind(rt, place) {
-            return Ok(listener);
-        }
+    let Ok(poll) = Poll::new(rt) else {
+        return Err(LoopFault::Poll);
+    };
+    let registered = poll
+        .registry()
+        .register(&mut listener, LISTENER, Interest::READABLE);
+    if registered.is_err() {
+        return Err(LoopFault::Poll);
     }
-    Err(LoopFault::Listen)
-}
-
-/// So many places for doors.
-fn places(alloc: Global, slots: usize) -> Result<Vec<Option<Door>>, LoopFault> {
-    let mut doors: Vec<Option<Door>> = Vec::new(alloc);
-    for _slot in 0..slots {
-        if doors.push(None).is_err() {
-            return Err(LoopFault::Memory);
-        }
-    }
-    Ok(doors)
+    Ok((listener, poll))
 }
 
 /// A number that differs from run to run.
@@ -100,18 +93,14 @@ fn seed_of<R: Clock>(rt: &R) -> Option<u64> {
     Some(u64::from(past.subsec_nanos()))
 }
 
-/// The carrier of a group, whose peers' addresses are looked up once.
-fn carrier_of<R: Net + Clock>(
+/// Adds the peers of a group to its carrier. Their addresses are looked up once.
+fn add_peers<R: Net>(
     rt: &R,
-    alloc: Global,
+    carrier: &mut Carrier,
     own: Identity,
-    group: &Group,
-) -> Result<Carrier, LoopFault> {
-    let Some(seed) = seed_of(rt) else {
-        return Err(LoopFault::Clock);
-    };
-    let mut carrier = Carrier::new(alloc, group.carries, own.nodes == 1, group.tells, seed);
-    for peer in &group.peers {
+    peers: &[PeerAddress],
+) -> Result<(), LoopFault> {
+    for peer in peers {
         let Ok(mut found) = peer.address.as_str().to_socket_addrs(rt) else {
             return Err(LoopFault::Peer(peer.node));
         };
@@ -122,7 +111,7 @@ fn carrier_of<R: Net + Clock>(
             return Err(LoopFault::Memory);
         }
     }
-    Ok(carrier)
+    Ok(())
 }
 
 /// The listener of HTTP, where one is wanted.
@@ -148,7 +137,54 @@ fn seconds_of<R: Clock>(rt: &R) -> Option<i64> {
 }
 
 impl Edge {
-    /// The sockets at the start: the listener alone.
+    /// The listener alone, without places for connections.
+    fn listening<R: Net + Clock>(
+        rt: &R,
+        alloc: Global,
+        address: &str,
+        own: Identity,
+        group: &Group,
+        access: &Access<'_>,
+    ) -> Result<Edge, LoopFault> {
+        let (Some(seed), Ok(start)) = (seed_of(rt), Instant::now(rt)) else {
+            return Err(LoopFault::Clock);
+        };
+        let events = Events::with_capacity(alloc, EVENTS)?;
+        let (listener, poll) = listener_of(rt, address, access)?;
+        Ok(Edge {
+            alloc,
+            poll,
+            events,
+            listener,
+            doors: Vec::new(alloc),
+            carrier: Carrier::new(alloc, group.carries, own.nodes == 1, group.tells, seed),
+            web: None,
+            accepts: Accepts::AtEvent,
+            counts: Counts::new(),
+            watch: Watch::new(),
+            start,
+            swept: 0,
+            noted: None,
+            more: false,
+        })
+    }
+
+    /// Adds places for so many connections, the peers, and the listener of HTTP.
+    fn prepare<R: Net>(
+        &mut self,
+        rt: &R,
+        slots: usize,
+        own: Identity,
+        group: &Group,
+        access: &Access<'_>,
+    ) -> Result<(), LoopFault> {
+        add_places(&mut self.doors, slots)?;
+        add_peers(rt, &mut self.carrier, own, &group.peers)?;
+        self.web = web_of(rt, self.alloc, self.poll.registry(), slots, access)?;
+        Ok(())
+    }
+
+    /// The sockets at the start: the listeners, and no connection.
     fn new<R: Net + Clock>(
         rt: &R,
         alloc: Global,
@@ -158,38 +194,14 @@ impl Edge {
         group: &Group,
         access: &Access<'_>,
     ) -> Result<Edge, LoopFault> {
-        let mut listener = listener_at(rt, address, access)?;
-        let Ok(poll) = Poll::new(rt) else {
-            return Err(LoopFault::Poll);
-        };
-        let events = Events::with_capacity(alloc, EVENTS)?;
-        if poll
-            .registry()
-            .register(&mut listener, LISTENER, Interest::READABLE)
-            .is_err()
-        {
-            return Err(LoopFault::Poll);
+        let mut edge = Edge::listening(rt, alloc, address, own, group, access)?;
+        match edge.prepare(rt, slots, own, group, access) {
+            Ok(()) => Ok(edge),
+            Err(fault) => {
+                drop(edge);
+                Err(fault)
+            }
         }
-        let web = web_of(rt, alloc, poll.registry(), slots, access)?;
-        let Ok(start) = Instant::now(rt) else {
-            return Err(LoopFault::Clock);
-        };
-        Ok(Edge {
-            alloc,
-            poll,
-            events,
-            listener,
-            doors: places(alloc, slots)?,
-            carrier: carrier_of(rt, alloc, own, group)?,
-            web,
-            accepts: Accepts::AtEvent,
-            counts: Counts::new(),
-            watch: Watch::new(),
-            start,
-            swept: 0,
-            noted: None,
-            more: false,
-        })
     }
 
     /// Waits for events, and marks the doors that have one. Whether the listener has, and the

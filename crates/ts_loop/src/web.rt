@@ -4,6 +4,7 @@
 ghost use Rattle.ts_links.specs.Calls.{HasReached};
 
 use crate::fault::LoopFault;
+use crate::listening::{ListenFault, add_places, listener_at};
 use crate::pumping::Round;
 use crate::watch::Watch;
 use crate::web_door::{RoundEnd, WebDoor, begin_web, end_web};
@@ -11,21 +12,14 @@ use mio::event::Event;
 use mio::net::{TcpListener, TcpStream};
 use mio::{Interest, Registry, Token};
 use std::alloc::Global;
-use std::io::ErrorKind;
-use std::net::{Net, ToSocketAddrs};
+use std::net::Net;
 use std::rt::Clock;
 use ts_links::{Connections, Service};
 use ts_site::{Board, Face, Scene};
-use ts_sockets::{Accepts, Access, Carrier, Counts, Limits, PIECE, Why};
+use ts_sockets::{ACCEPTS, Accepts, Access, Carrier, Counts, Limits, PIECE, Socket, Why};
 
 /// The token of the listener. The doors follow.
 pub(crate) const WEB: usize = 1_000_000;
-
-/// The most connections that one round accepts.
-const ACCEPTS: u32 = 64;
-
-/// How many milliseconds pass until an accept that failed is tried again.
-const RETRY: u64 = 100;
 
 /// How many milliseconds pass until late connections are looked for again.
 const SWEEP: u64 = 100;
@@ -52,26 +46,23 @@ pub(crate) struct Web {
     pub more: bool,
 }
 
-/// The listener at an address, at which this machine alone listens unless any is allowed.
-/// Whether it is such an address.
-fn listener_at<R: Net>(
+/// The listener at an address, and whether this machine alone reaches it.
+fn listener_of_web<R: Net>(
     rt: &R,
+    registry: &Registry,
     address: &str,
     open: bool,
 ) -> Result<(TcpListener, bool), LoopFault> {
-    let Ok(found) = address.to_socket_addrs(rt) else {
-        return Err(LoopFault::ListenHttp);
+    let (mut listener, is_loopback) = match listener_at(rt, address, open) {
+        Ok(found) => found,
+        Err(ListenFault::Address) => return Err(LoopFault::ListenHttp),
+        Err(ListenFault::Unprotected) => return Err(LoopFault::UnprotectedHttp),
     };
-    for place in found {
-        let is_loopback = place.ip().is_loopback();
-        if !open && !is_loopback {
-            return Err(LoopFault::UnprotectedHttp);
-        }
-        if let Ok(listener) = TcpListener::bind(rt, place) {
-            return Ok((listener, is_loopback));
-        }
+    let registered = registry.register(&mut listener, Token(WEB), Interest::READABLE);
+    if registered.is_err() {
+        return Err(LoopFault::Poll);
     }
-    Err(LoopFault::ListenHttp)
+    Ok((listener, is_loopback))
 }
 
 /// The slot of the connection that has been idle longest.
@@ -107,23 +98,11 @@ impl Web {
         slots: usize,
         access: &Access<'_>,
     ) -> Result<Web, LoopFault> {
-        let (mut listener, is_loopback) = listener_at(rt, address, access.open)?;
-        if registry
-            .register(&mut listener, Token(WEB), Interest::READABLE)
-            .is_err()
-        {
-            return Err(LoopFault::Poll);
-        }
-        let mut doors: Vec<Option<WebDoor>> = Vec::new(alloc);
-        for _slot in 0..slots {
-            if doors.push(None).is_err() {
-                return Err(LoopFault::Memory);
-            }
-        }
-        Ok(Web {
+        let (listener, is_loopback) = listener_of_web(rt, registry, address, access.open)?;
+        let mut web = Web {
             alloc,
             listener,
-            doors,
+            doors: Vec::new(alloc),
             accepts: Accepts::AtEvent,
             event: false,
             swept: 0,
@@ -132,7 +111,14 @@ impl Web {
             board: Board::new(alloc, access.node),
             counts: Counts::new(),
             more: false,
-        })
+        };
+        match add_places(&mut web.doors, slots) {
+            Ok(()) => Ok(web),
+            Err(fault) => {
+                drop(web);
+                Err(LoopFault::from(fault))
+            }
+        }
     }
 
     /// An event of the listener, or of a door.
@@ -191,18 +177,18 @@ impl Web {
     /// Lets a connection in, if there is a slot for it. Else it is closed.
     fn let_in(&mut self, registry: &Registry, mut stream: TcpStream, now: u64) {
         let Some(slot) = self.find_slot() else {
-            self.counts.refused = self.counts.refused.saturating_add(1);
+            self.counts.refuse();
             return;
         };
         let token = Token(WEB.saturating_add(1).saturating_add(slot));
         let both = Interest::READABLE | Interest::WRITABLE;
         if slot >= self.doors.len() || registry.register(&mut stream, token, both).is_err() {
-            self.counts.refused = self.counts.refused.saturating_add(1);
+            self.counts.refuse();
             return;
         }
         let _nodelay = stream.set_nodelay(true);
         self.counts.opened();
-        self.doors[slot] = Some(WebDoor::new(stream, Face::new(self.alloc, now)));
+        self.doors[slot] = Some(WebDoor::new(Socket::new(stream), Face::new(self.alloc, now)));
     }
 
     /// Accepts connections, until none waits or one can't be accepted. When to accept next.
@@ -210,12 +196,7 @@ impl Web {
         for _accept in 0..ACCEPTS {
             match self.listener.accept() {
                 Ok((stream, _)) => self.let_in(registry, stream, now),
-                Err(error) if error.kind() == ErrorKind::WouldBlock => return Accepts::AtEvent,
-                Err(_) => {
-                    let failed = self.counts.failed_accepts;
-                    self.counts.failed_accepts = failed.saturating_add(1);
-                    return Accepts::At(now.saturating_add(RETRY));
-                }
+                Err(error) => return Accepts::after(&error, now, &mut self.counts),
             }
         }
         Accepts::Now

@@ -1,36 +1,25 @@
 //! The socket of a connection of HTTP, and what is known of it.
 
-ghost use Rattle.std.specs.Prelude.{◌≤◌, IfSome};
 ghost use Rattle.ts_links.specs.Calls.{HasReached};
 
 use crate::pumping::Round;
 use crate::watch::{Watch, moment};
 use mio::event::Event;
-use mio::net::TcpStream;
 use std::alloc::Global;
-use std::io::{ErrorKind, Read};
-use std::net::Shutdown;
 use std::rt::Clock;
 use ts_links::{Connections, Service};
 use ts_site::{Board, Face, Scene};
-use ts_sockets::{Carrier, PIECE, ask, first_of, write_some};
+use ts_sockets::{Carrier, PIECE, Socket, ask, first_of};
 use ts_wire::Frame;
 
 /// The most requests of one connection that are answered before the others have their turn.
 const TURNS: u32 = 8;
 
-/// The socket of a connection of HTTP. An event comes at a change alone, so that what may be done
-/// is kept here until the socket refuses it.
+/// The socket of a connection of HTTP, and what a round does with it.
 #[derive(Drop)]
 pub(crate) struct WebDoor {
-    pub stream: TcpStream,
+    socket: Socket,
     pub face: Face,
-    readable: bool,
-    writable: bool,
-    /// No more comes.
-    ended: bool,
-    /// Nothing more is written.
-    shut: bool,
     /// It is to be looked at in this round.
     pub hot: bool,
     /// How often the node was asked for it in this round.
@@ -56,14 +45,10 @@ pub(crate) enum RoundEnd {
 
 impl WebDoor {
     /// The door of a new connection.
-    pub fn new(stream: TcpStream, face: Face) -> WebDoor {
+    pub fn new(socket: Socket, face: Face) -> WebDoor {
         WebDoor {
-            stream,
+            socket,
             face,
-            readable: true,
-            writable: true,
-            ended: false,
-            shut: false,
             hot: true,
             turns: 0,
             failed: false,
@@ -73,39 +58,15 @@ impl WebDoor {
     /// An event of its socket.
     pub fn mark(&mut self, event: &Event) {
         self.hot = true;
-        if event.is_readable() || event.is_read_closed() || event.is_error() {
-            self.readable = true;
-        }
-        if event.is_writable() || event.is_write_closed() || event.is_error() {
-            self.writable = true;
-        }
-    }
-
-    /// Reads once. How many octets came, and `None` where the connection failed.
-    fn read_some(&mut self, buffer: &mut [u8; PIECE]) -> Option<usize>
-        ensures { IfSome result (λ count. count ≤ 16384) }
-    {
-        match self.stream.read(buffer) {
-            Ok(0) => {
-                self.ended = true;
-                Some(0)
-            }
-            Ok(count) => Some(count),
-            Err(error) if error.kind() == ErrorKind::WouldBlock => {
-                self.readable = false;
-                Some(0)
-            }
-            Err(error) if error.kind() == ErrorKind::Interrupted => Some(0),
-            Err(_) => None,
-        }
+        self.socket.mark(event);
     }
 
     /// Reads once, if there is room. `false` where the connection failed.
     fn read(&mut self, buffer: &mut [u8; PIECE], now: u64) -> bool {
-        if !self.readable || self.ended || !self.face.reads() {
+        if !self.socket.is_readable() || !self.face.reads() {
             return true;
         }
-        let Some(count) = self.read_some(buffer) else {
+        let Some(count) = self.socket.read(buffer) else {
             return false;
         };
         self.face.push(&buffer[..count], now).is_ok()
@@ -115,11 +76,10 @@ impl WebDoor {
     fn write<S: Service>(&mut self, service: &S, now: u64) -> bool
         requires { S.is_kept service.now }
     {
-        if !self.writable || self.face.octets().is_empty() {
+        if !self.socket.is_writable() || self.face.octets().is_empty() {
             return true;
         }
-        let octets = self.face.octets();
-        match write_some(service, &mut self.stream, &mut self.writable, octets) {
+        match self.socket.write(service, self.face.octets()) {
             Some(count) => {
                 self.face.leave(count, now);
                 true
@@ -128,27 +88,25 @@ impl WebDoor {
         }
     }
 
-    /// Ends what is written, once all has left of a connection that has ended. The system would
-    /// else take the last response away where the client has sent more.
+    /// Ends what is written, once all has left of a connection that has ended.
     fn shut_if_done(&mut self) {
-        if self.shut || !self.face.is_ended() || !self.face.octets().is_empty() {
-            return;
+        if self.face.is_ended() && self.face.octets().is_empty() {
+            self.socket.shut();
         }
-        self.shut = true;
-        let _shut = self.stream.shutdown(Shutdown::Write);
     }
 
     /// What is left to do after the turns of this round.
     fn left(&self) -> RoundEnd {
         let waits = !self.face.octets().is_empty();
-        let reads = self.readable && !self.ended && self.face.reads();
-        if self.face.goes_on() || self.turns == TURNS || reads || (waits && self.writable) {
+        let reads = self.socket.is_readable() && self.face.reads();
+        let writes = waits && self.socket.is_writable();
+        if self.face.goes_on() || self.turns == TURNS || reads || writes {
             return RoundEnd::More;
         }
         if self.face.asks().is_some() {
             return RoundEnd::Held;
         }
-        if self.ended && !waits {
+        if self.socket.is_ended() && !waits {
             return RoundEnd::Ended;
         }
         RoundEnd::Waits

@@ -3,7 +3,7 @@
 ghost use Rattle.std.specs.Prelude.{◌<◌};
 
 use std::alloc::{AllocError, Global};
-use ts_api::{ROUTES, Route};
+use ts_api::Route;
 use ts_page::PeerLine;
 use ts_question::Reply;
 use ts_render::valid_in;
@@ -215,9 +215,4 @@ impl Board {
         let count = &mut self.tally.verdicts[verdict_place(reply)];
         *count = count.saturating_add(1);
     }
-}
-
-/// All routes.
-pub(crate) fn routes() -> [Route; 13] {
-    ROUTES
 }

@@ -1,7 +1,8 @@
 //! Counts in the text format of Prometheus.
 
-use crate::board::{BOUNDS, Board, Label, Metric, Summary, Turns, routes};
+use crate::board::{BOUNDS, Board, Label, Metric, Summary, Turns};
 use std::alloc::{AllocError, Global};
+use ts_api::Route;
 
 /// Writes the two lines above the counts of a name.
 fn push_head(
@@ -49,7 +50,7 @@ fn push_metrics(alloc: Global, text: &mut String, metrics: &[Metric]) -> Result<
 fn push_routes(alloc: Global, text: &mut String, board: &Board) -> Result<(), AllocError> {
     let help = "Responses over HTTP, by path and the class of the status";
     push_head(alloc, text, "http_responses_total", help, true)?;
-    for route in routes() {
+    for route in Route::all() {
         let path = route.path();
         for (class, name) in ["2xx", "4xx", "5xx"].into_iter().enumerate() {
             let value = board.tally.count(route, class);

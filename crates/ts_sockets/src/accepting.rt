@@ -6,6 +6,7 @@ use crate::access::Access;
 use crate::counts::{Counts, Why};
 use crate::door::Door;
 use crate::lock::Lock;
+use crate::socket::Socket;
 use mio::net::{TcpListener, TcpStream};
 use mio::{Interest, Registry, Token};
 use std::alloc::Global;
@@ -17,7 +18,7 @@ use ts_links::Connections;
 use ts_links::reaching::{close, open};
 
 /// The most connections that one round accepts.
-const ACCEPTS: u32 = 64;
+pub const ACCEPTS: u32 = 64;
 
 /// How many milliseconds pass until an accept that failed is tried again.
 const RETRY: u64 = 100;
@@ -41,6 +42,15 @@ impl Accepts {
             Accepts::Now => true,
             Accepts::At(moment) => moment <= now,
         }
+    }
+
+    /// When to accept again, after an error of the listener.
+    pub fn after(error: &io::Error, now: u64, counts: &mut Counts) -> Accepts {
+        if error.kind() == ErrorKind::WouldBlock {
+            return Accepts::AtEvent;
+        }
+        counts.failed_accepts = counts.failed_accepts.saturating_add(1);
+        Accepts::At(now.saturating_add(RETRY))
     }
 }
 
@@ -78,7 +88,7 @@ fn put_door<R: RandomSource>(
             return false;
         }
     }
-    doors[slot] = Some(Door::new(stream, from, lock));
+    doors[slot] = Some(Door::new(Socket::new(stream), from, lock));
     true
 }
 
@@ -164,7 +174,7 @@ fn let_in<R: RandomSource>(
 {
     let is_locked = entry.access.is_locked();
     let Some(slot) = find_slot(table, doors, is_locked, now, counts) else {
-        counts.refused = counts.refused.saturating_add(1);
+        counts.refuse();
         return;
     };
     counts.opened();
@@ -173,15 +183,6 @@ fn let_in<R: RandomSource>(
     }
     counts.closed(Why::Failed);
     let _closed = close(table, slot);
-}
-
-/// When to accept again, after an error.
-fn after_error(error: &io::Error, now: u64, counts: &mut Counts) -> Accepts {
-    if error.kind() == ErrorKind::WouldBlock {
-        return Accepts::AtEvent;
-    }
-    counts.failed_accepts = counts.failed_accepts.saturating_add(1);
-    Accepts::At(now.saturating_add(RETRY))
 }
 
 /// Accepts connections, each into a slot, until none waits or one can't be accepted.
@@ -201,7 +202,7 @@ pub fn accept_some<R: RandomSource>(
                 let _nodelay = stream.set_nodelay(true);
                 let_in(table, doors, stream, from, entry, now, counts);
             }
-            Err(error) => return after_error(&error, now, counts),
+            Err(error) => return Accepts::after(&error, now, counts),
         }
     }
     Accepts::Now

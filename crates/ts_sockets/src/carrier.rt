@@ -4,10 +4,10 @@
 ghost use Rattle.ts_links.specs.Calls.{HasReached};
 
 use crate::asking::ask;
-use crate::door::PIECE;
 use crate::frames::{is_settled, messages_in, octets_of, outcome_of, prefix_of};
 use crate::line::{Line, LineChange};
 use crate::senders::{Sender, Senders};
+use crate::socket::PIECE;
 use crate::telling::{MOST, log_frame, tell_rows};
 use mio::event::Event;
 use mio::{Registry, Token};

@@ -49,6 +49,11 @@ impl Counts {
         self.most = self.most.max(self.open);
     }
 
+    /// A connection was closed at once, since no slot was free.
+    pub fn refuse(&mut self) {
+        self.refused = self.refused.saturating_add(1);
+    }
+
     /// A connection was closed.
     pub fn closed(&mut self, why: Why) {
         self.open = self.open.saturating_sub(1);

@@ -1,34 +1,20 @@
 //! The socket of a slot, and what is known of it.
 
-ghost use Rattle.std.specs.Prelude.{◌≤◌, IfSome, length};
 ghost use Rattle.ts_links.specs.Calls.{IsQuiet};
 
 use crate::lock::{HandOver, Lock};
-use mio::net::TcpStream;
-use std::io::{ErrorKind, Read, Write};
-use std::net::{Shutdown, SocketAddr};
+use crate::socket::{PIECE, Socket};
+use std::net::SocketAddr;
 use ts_access::Key;
 use ts_links::reaching::{arrive, leave};
 use ts_links::{Connections, Service, Stage};
 
-/// The most octets that one read takes.
-pub const PIECE: usize = 16_384;
-
-/// The socket of a slot. An event comes at a change alone, so that what may be done is kept here
-/// until the socket refuses it.
+/// The socket of a slot, and what a round does with it.
 #[derive(Drop)]
 pub struct Door {
-    pub stream: TcpStream,
+    pub socket: Socket,
     /// The address of its client.
     pub from: SocketAddr,
-    /// A read may give something.
-    pub readable: bool,
-    /// A write may take something.
-    pub writable: bool,
-    /// No more comes.
-    pub ended: bool,
-    /// Nothing more is written.
-    pub shut: bool,
     /// It is to be looked at in this round.
     pub hot: bool,
     /// How many requests were taken of it in this round.
@@ -43,14 +29,10 @@ pub struct Door {
 
 impl Door {
     /// The door of a new connection.
-    pub(crate) fn new(stream: TcpStream, from: SocketAddr, lock: Option<Lock>) -> Door {
+    pub(crate) fn new(socket: Socket, from: SocketAddr, lock: Option<Lock>) -> Door {
         Door {
-            stream,
+            socket,
             from,
-            readable: true,
-            writable: true,
-            ended: false,
-            shut: false,
             hot: true,
             taken: 0,
             held: false,
@@ -77,28 +59,9 @@ impl Door {
     }
 }
 
-/// Reads once into a buffer. How many octets came, and `None` where the connection failed.
-fn read_some(door: &mut Door, buffer: &mut [u8; PIECE]) -> Option<usize>
-    ensures { IfSome result (λ count. count ≤ 16384) }
-{
-    match door.stream.read(buffer) {
-        Ok(0) => {
-            door.ended = true;
-            Some(0)
-        }
-        Ok(count) => Some(count),
-        Err(error) if error.kind() == ErrorKind::WouldBlock => {
-            door.readable = false;
-            Some(0)
-        }
-        Err(error) if error.kind() == ErrorKind::Interrupted => Some(0),
-        Err(_) => None,
-    }
-}
-
 /// Whether a read is worth while: of a connection that was refused all is read, and dropped.
 fn may_read(table: &Connections, door: &Door, slot: usize) -> bool {
-    if !door.readable || door.ended {
+    if !door.socket.is_readable() {
         return false;
     }
     match table.stage(slot) {
@@ -139,7 +102,7 @@ pub fn read_once(
 {
     let mut count = 0;
     if may_read(table, door, slot) {
-        let Some(read) = read_some(door, buffer) else {
+        let Some(read) = door.socket.read(buffer) else {
             return false;
         };
         count = read;
@@ -148,29 +111,6 @@ pub fn read_once(
         return true;
     }
     take_in(table, door, keys, slot, &buffer[..count], now)
-}
-
-/// Writes octets once. How many were taken, and `None` where the connection failed. All that a loop
-/// writes on a socket passes here, and so whoever writes has a service that has kept on disk what
-/// followed from all requests that it answered.
-pub fn write_some<S: Service>(
-    _kept: &S,
-    stream: &mut TcpStream,
-    writable: &mut bool,
-    octets: &[u8],
-) -> Option<usize>
-    requires { S.is_kept _kept.now }
-    ensures { IfSome result (λ count. count ≤ length octets.now) }
-{
-    match stream.write(octets) {
-        Ok(count) => Some(count),
-        Err(error) if error.kind() == ErrorKind::WouldBlock => {
-            *writable = false;
-            Some(0)
-        }
-        Err(error) if error.kind() == ErrorKind::Interrupted => Some(0),
-        Err(_) => None,
-    }
 }
 
 /// Writes once what waits on a slot. `false` where the connection failed.
@@ -188,7 +128,7 @@ fn write_plain<S: Service>(
         return true;
     }
     let octets = table.waiting(slot);
-    match write_some(service, &mut door.stream, &mut door.writable, octets) {
+    match door.socket.write(service, octets) {
         Some(count) => leave(table, slot, count, now),
         None => false,
     }
@@ -204,7 +144,7 @@ fn write_ready<S: Service>(service: &S, door: &mut Door) -> bool
     if !lock.waits() {
         return true;
     }
-    match write_some(service, &mut door.stream, &mut door.writable, lock.octets()) {
+    match door.socket.write(service, lock.octets()) {
         Some(count) => {
             lock.written(count);
             true
@@ -234,7 +174,7 @@ fn write_once<S: Service>(
     requires { S.is_kept service.now }
     ensures { IsQuiet table.old table.new }
 {
-    if !door.writable {
+    if !door.socket.is_writable() {
         return true;
     }
     if door.lock.is_none() {
@@ -289,12 +229,9 @@ pub fn write_last<S: Service>(service: &S, door: &mut Door)
     let _written = write_ready(service, door);
 }
 
-/// Ends what is written on a connection that was refused, once all has left. The system would else
-/// take the fault's answer away where the client has sent more.
+/// Ends what is written on a connection that was refused, once all has left.
 pub fn shut_if_done(table: &Connections, door: &mut Door, slot: usize) {
-    if door.shut || table.stage(slot) != Stage::Refused || door.waits(table, slot) {
-        return;
+    if table.stage(slot) == Stage::Refused && !door.waits(table, slot) {
+        door.socket.shut();
     }
-    door.shut = true;
-    let _shut = door.stream.shutdown(Shutdown::Write);
 }

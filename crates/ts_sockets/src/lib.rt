@@ -7,7 +7,7 @@
 //! let handed = finish(&mut table, &service, &mut door, keys, slot, now);
 //! ```
 //!
-//! A [`Door`] is the socket of a slot (`ts_links`), which [`accept_some`] opens. Where keys are
+//! A [`Door`] has the [`Socket`] of a slot (`ts_links`), which [`accept_some`] opens. Where keys are
 //! wanted, a lock stands between the socket and its connection (`ts_access`): what comes is handed
 //! on as the key's role may ask it, what leaves is sealed. A connection that shows no key for as
 //! long as a request may take is closed, and each is after an hour. The file of keys is read again
@@ -23,7 +23,7 @@
 //! - [`read_once`], [`finish`], [`accept_some`], [`ask`], [`Carrier::carry`], [`Carrier::tell`]:
 //!   whatever the sockets give, only moves of `ts_links` are made (`IsQuiet`, `HasReached`): quiet
 //!   ones, and turns of the node.
-//! - [`write_some`]: all that is written on a socket passes it. Its condition is that what was
+//! - [`Socket::write`]: all that is written on a socket passes it. Its condition is that what was
 //!   answered is kept, and so it is one of each call that writes.
 //! - [`Counts`]: what was done, for whoever watches.
 //!
@@ -48,15 +48,17 @@ mod line;
 mod lock;
 mod seal;
 mod senders;
+mod socket;
 mod telling;
 
-pub use accepting::{Accepts, Entry, accept_some};
+pub use accepting::{ACCEPTS, Accepts, Entry, accept_some};
 pub use access::Access;
 pub use asking::ask;
 pub use carrier::{Carrier, PEERS};
 pub use counts::{Counts, Why};
-pub use door::{Door, PIECE, finish, read_once, shut_if_done, write_last, write_some};
+pub use door::{Door, finish, read_once, shut_if_done, write_last};
 pub use frames::first_of;
 pub use group::{Group, PeerAddress};
 pub use limits::Limits;
 pub use line::Line;
+pub use socket::{PIECE, Socket};

@@ -1,14 +1,11 @@
 //! The line to a peer: a connection that is made, used and made again.
 
-ghost use Rattle.std.specs.Prelude.{◌≤◌, IfSome};
-
-use crate::door::{PIECE, write_some};
 use crate::seal::Seal;
+use crate::socket::{PIECE, Socket};
 use mio::event::Event;
 use mio::net::TcpStream;
 use mio::{Interest, Registry, Token};
 use std::alloc::Global;
-use std::io::{ErrorKind, Read};
 use std::net::{Net, SocketAddr};
 use std::random::RandomSource;
 use ts_access::Key;
@@ -58,11 +55,9 @@ pub struct Line {
     address: SocketAddr,
     mailbox: Mailbox,
     dial: Dial,
-    stream: Option<TcpStream>,
+    socket: Option<Socket>,
     seal: Option<Seal>,
     answers: Feed,
-    readable: bool,
-    writable: bool,
     /// When the peer was last asked how many commands it knows.
     asked: u64,
     /// When octets last came from it, or a connection to it was made last.
@@ -91,11 +86,9 @@ impl Line {
             address,
             mailbox: Mailbox::new(alloc),
             dial: Dial::new(),
-            stream: None,
+            socket: None,
             seal: None,
             answers: Feed::new(alloc),
-            readable: false,
-            writable: false,
             asked: 0,
             heard: 0,
             is_met: false,
@@ -127,18 +120,15 @@ impl Line {
 
     /// An event of its socket.
     pub(crate) fn mark(&mut self, event: &Event) {
-        if event.is_readable() || event.is_read_closed() || event.is_error() {
-            self.readable = true;
-        }
-        if event.is_writable() || event.is_write_closed() || event.is_error() {
-            self.writable = true;
+        if let Some(socket) = &mut self.socket {
+            socket.mark(event);
         }
     }
 
     /// The connection is lost, or was not made.
     fn lose(&mut self, now: u64, chance: u64) -> LineChange {
         let was_up = matches!(self.dial.phase, Phase::Up { .. });
-        self.stream = None;
+        self.socket = None;
         self.seal = None;
         self.mailbox.cut();
         self.answers = Feed::new(self.alloc);
@@ -168,8 +158,6 @@ impl Line {
         chance: u64,
     ) -> LineChange {
         self.dial.begin(now);
-        self.readable = false;
-        self.writable = false;
         let both = Interest::READABLE | Interest::WRITABLE;
         let Ok(mut stream) = TcpStream::connect(net, self.address) else {
             return self.lose(now, chance);
@@ -177,17 +165,25 @@ impl Line {
         if registry.register(&mut stream, token, both).is_err() {
             return self.lose(now, chance);
         }
-        self.stream = Some(stream);
+        self.socket = Some(Socket::dialed(stream));
         LineChange::None
     }
 
     /// Whether the connection that is being made is there.
     fn is_made(&self) -> bool {
-        let Some(stream) = &self.stream else {
+        let Some(socket) = &self.socket else {
             return false;
         };
-        let _nodelay = stream.set_nodelay(true);
-        matches!(stream.take_error(), Ok(None)) && stream.peer_addr().is_ok()
+        let _nodelay = socket.stream.set_nodelay(true);
+        matches!(socket.stream.take_error(), Ok(None)) && socket.stream.peer_addr().is_ok()
+    }
+
+    /// Whether a write may take something.
+    fn is_writable(&self) -> bool {
+        match &self.socket {
+            Some(socket) => socket.is_writable(),
+            None => false,
+        }
     }
 
     /// Looks after a connection that is being made.
@@ -199,7 +195,7 @@ impl Line {
         now: u64,
         chance: u64,
     ) -> LineChange {
-        if !self.writable {
+        if !self.is_writable() {
             if now.saturating_sub(since) < SILENCE {
                 return LineChange::None;
             }
@@ -241,23 +237,6 @@ impl Line {
         self.asked = now;
         if let Ok(frame) = Vec::from_slice(self.alloc, &STATUS) {
             self.put(frame);
-        }
-    }
-
-    /// Reads once. How many octets came, and `None` where the connection is over.
-    fn read_once(&mut self, buffer: &mut [u8; PIECE]) -> Option<usize>
-        ensures { IfSome result (λ count. count ≤ 16384) }
-    {
-        let stream = self.stream.as_mut()?;
-        match stream.read(buffer) {
-            Ok(0) => None,
-            Ok(count) => Some(count),
-            Err(error) if error.kind() == ErrorKind::WouldBlock => {
-                self.readable = false;
-                Some(0)
-            }
-            Err(error) if error.kind() == ErrorKind::Interrupted => Some(0),
-            Err(_) => None,
         }
     }
 
@@ -329,10 +308,13 @@ impl Line {
     /// Reads what has come. `false` where the connection is over.
     fn read_all(&mut self, buffer: &mut [u8; PIECE], now: u64) -> bool {
         for _read in 0..CALLS {
-            if !self.readable {
-                return true;
+            let Some(socket) = &mut self.socket else {
+                return false;
+            };
+            if !socket.is_readable() {
+                return !socket.is_ended();
             }
-            let Some(count) = self.read_once(buffer) else {
+            let Some(count) = socket.read(buffer) else {
                 return false;
             };
             if count > 0 {
@@ -369,19 +351,19 @@ impl Line {
     fn write_once<S: Service>(&mut self, service: &S) -> bool
         requires { S.is_kept service.now }
     {
-        let Some(stream) = &mut self.stream else {
+        let Some(socket) = &mut self.socket else {
             return false;
         };
         if let Some(seal) = &mut self.seal {
             let octets = seal.out.octets();
-            let Some(count) = write_some(service, stream, &mut self.writable, octets) else {
+            let Some(count) = socket.write(service, octets) else {
                 return false;
             };
             seal.out.skip(count);
             return true;
         }
         let octets = self.mailbox.octets();
-        let Some(count) = write_some(service, stream, &mut self.writable, octets) else {
+        let Some(count) = socket.write(service, octets) else {
             return false;
         };
         self.mailbox.sent(count);
@@ -396,7 +378,7 @@ impl Line {
             if !self.make_ready() {
                 return false;
             }
-            if !self.writable || !self.waits() {
+            if !self.is_writable() || !self.waits() {
                 return true;
             }
             if !self.write_once(service) {
