@@ -9,7 +9,7 @@ ghost use Rattle.ts_command.specs.Octets.{octets_of};
 use std::alloc::{AllocError, Global};
 use std::test::Fail;
 use ts_answer::Answers;
-use ts_client::{Ending, Upkeep, ask, submit, tend};
+use ts_client::{Ending, Saying, Upkeep, ask, submit, tend};
 use ts_command::Command;
 use ts_disk::MemDisk;
 use ts_explain::explanation;
@@ -60,48 +60,55 @@ fn withdrawal() -> Command {
     }
 }
 
+/// The question about the search.
+fn question(alloc: Global) -> Result<Question, AllocError> {
+    match Question::read(alloc, QUESTION)? {
+        Some(question) => Ok(question),
+        None => Err(AllocError),
+    }
+}
+
+/// Whether a node's answer is said so.
+fn is_said(saying: &Saying, line: &str, ended: Ending) -> bool {
+    saying.line.as_str() == line && saying.ended == ended
+}
+
 #[test]
 fn a_command_is_submitted_and_a_question_asked(rt: HostRuntime) -> Result<(), Fail> {
     let alloc = rt.alloc();
+    let question = question(alloc)?;
     let Some(peer) = lone(alloc)? else {
         panic!(&rt; "no node");
     };
     let mut peers = [peer];
-    let said = submit(alloc, &mut peers[0], noop())?;
-    assert_eq!(rt;
-        (said.line.as_str(), said.ended),
-        ("submit started 1 17\n", Ending::Well)
+    let started = submit(alloc, &mut peers[0], noop());
+    let carried = carry(alloc, &mut peers, 4);
+    let settled = submit(alloc, &mut peers[0], noop());
+    let second = submit(alloc, &mut peers[0], withdrawal());
+    let carried_again = carry(alloc, &mut peers, 4);
+    let refused = submit(alloc, &mut peers[0], withdrawal());
+    let asked = ask(alloc, &mut peers[0], question);
+    drop(peers);
+    assert!(rt; is_said(&started?, "submit started 1 17\n", Ending::Well));
+    assert_eq!(rt; carried, Ok(4));
+    assert!(rt; is_said(&settled?, "submit settled 1 applied\n", Ending::Well));
+    assert!(rt; is_said(&second?, "submit started 2 33\n", Ending::Well));
+    assert_eq!(rt; carried_again, Ok(4));
+    assert!(rt;
+        is_said(
+            &refused?,
+            "submit settled 2 refused NoAnchor\n",
+            Ending::Refused
+        )
     );
-    assert_eq!(rt; carry(alloc, &mut peers, 4)?, 4);
-    let said = submit(alloc, &mut peers[0], noop())?;
-    assert_eq!(rt;
-        (said.line.as_str(), said.ended),
-        ("submit settled 1 applied\n", Ending::Well)
-    );
-    let said = submit(alloc, &mut peers[0], withdrawal())?;
-    assert_eq!(rt; said.line.as_str(), "submit started 2 33\n");
-    assert_eq!(rt; carry(alloc, &mut peers, 4)?, 4);
-    let said = submit(alloc, &mut peers[0], withdrawal())?;
-    assert_eq!(rt;
-        (said.line.as_str(), said.ended),
-        ("submit settled 2 refused NoAnchor\n", Ending::Refused)
-    );
-    let Some(question) = Question::read(alloc, QUESTION)? else {
-        panic!(&rt; "no question");
-    };
-    assert_eq!(rt;
-        ask(alloc, &mut peers[0], question)?.as_str(),
-        "ask 2 Malformed 1 Truncated\n"
-    );
+    assert_eq!(rt; asked?.as_str(), "ask 2 Malformed 1 Truncated\n");
     Ok(())
 }
 
 #[test]
 fn replies_are_explained(rt: HostRuntime) -> Result<(), Fail> {
     let alloc = rt.alloc();
-    let Some(question) = Question::read(alloc, QUESTION)? else {
-        panic!(&rt; "no question");
-    };
+    let question = question(alloc)?;
     let text = explanation(alloc, &question, &Reply::NotYet { prefix: 3 })?;
     let wanted = b"the node knows 3 commands, fewer than the question is about\n";
     assert!(rt; text.as_slice() == wanted.as_slice());
@@ -120,17 +127,12 @@ fn a_node_is_kept_in_order(rt: HostRuntime) -> Result<(), Fail> {
     let Some(mut peer) = lone(alloc)? else {
         panic!(&rt; "no node");
     };
-    assert_eq!(rt;
-        tend(alloc, &mut peer, Upkeep::Status)?.as_str(),
-        "prefix 0\n"
-    );
-    assert_eq!(rt;
-        tend(alloc, &mut peer, Upkeep::CatchUp)?.as_str(),
-        "catchup\n"
-    );
-    assert_eq!(rt;
-        tend(alloc, &mut peer, Upkeep::Compact)?.as_str(),
-        "compact working\n"
-    );
+    let status = tend(alloc, &mut peer, Upkeep::Status);
+    let caught_up = tend(alloc, &mut peer, Upkeep::CatchUp);
+    let compacted = tend(alloc, &mut peer, Upkeep::Compact);
+    drop(peer);
+    assert_eq!(rt; status?.as_str(), "prefix 0\n");
+    assert_eq!(rt; caught_up?.as_str(), "catchup\n");
+    assert_eq!(rt; compacted?.as_str(), "compact working\n");
     Ok(())
 }
