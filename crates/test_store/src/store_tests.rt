@@ -1,6 +1,8 @@
 //! What commands come to. The octets were made by other tools.
 
-use std::alloc::Global;
+ghost use Rattle.std.specs.Prelude.{◌≡◌};
+
+use std::alloc::{AllocError, Global};
 use std::test::Fail;
 use ts_command::{Command, Outcome, Refusal};
 use ts_octets::Octets;
@@ -42,24 +44,48 @@ const DELTA: &[u8] =
 const NO_NEXT: &[u8] =
     b"\x30\x6c\x30\x5c\x02\x01\x01\x30\x06\x06\x04\x88\x37\x01\x01\x30\x0c\x31\x0a\x30\x08\x06\x03\x55\x04\x03\x0c\x01\x52\x17\x0d\x32\x36\x30\x34\x30\x31\x30\x30\x30\x30\x30\x30\x5a\x30\x22\x30\x20\x02\x01\x05\x17\x0d\x32\x36\x30\x33\x30\x31\x30\x30\x30\x30\x30\x30\x5a\x30\x0c\x30\x0a\x06\x03\x55\x1d\x63\x01\x01\xff\x04\x00\xa0\x0e\x30\x0c\x30\x0a\x06\x03\x55\x1d\x63\x01\x01\xff\x04\x00\x30\x06\x06\x04\x88\x37\x01\x01\x03\x04\x00\x73\x69\x67";
 
-#[test]
-fn a_repeated_id_names_the_first_position(rt: HostRuntime) -> Result<(), Fail> {
-    let mut store = Store::new(rt.alloc());
+/// What two commands come to in a new store, each twice. A store is let go in one place of a test,
+/// since each such place is proved.
+fn twice_each(store: &mut Store) -> Result<[Outcome; 4], AllocError>
+    requires { store.old.taken ≡ 0 }
+{
     let noop = Command::Noop { id: [1; 16] };
-    assert!(rt; store.apply(1, &noop)? == Outcome::Applied);
     let drop = Command::DropCrl {
         id: [2; 16],
         crl: [0; 32],
     };
-    assert!(rt; store.apply(2, &drop)? == Outcome::Refused(Refusal::NoCrl));
-    assert!(rt; store.apply(3, &noop)? == Outcome::Repeated(1));
-    assert!(rt; store.apply(4, &drop)? == Outcome::Repeated(2));
-    let first = FirstCommand {
-        position: 2,
-        outcome: Outcome::Refused(Refusal::NoCrl),
-    };
-    assert!(rt; store.first(&[2; 16]) == Some(first));
-    assert!(rt; store.taken() == 4);
+    Ok([
+        store.apply(1, &noop)?,
+        store.apply(2, &drop)?,
+        store.apply(3, &noop)?,
+        store.apply(4, &drop)?,
+    ])
+}
+
+#[test]
+fn a_repeated_id_names_the_first_position(rt: HostRuntime) -> Result<(), Fail> {
+    let mut store = Store::new(rt.alloc());
+    let outcomes = twice_each(&mut store);
+    let first = store.first(&[2; 16]);
+    let taken = store.taken();
+    drop(store);
+    assert!(rt;
+        outcomes
+            == Ok([
+                Outcome::Applied,
+                Outcome::Refused(Refusal::NoCrl),
+                Outcome::Repeated(1),
+                Outcome::Repeated(2),
+            ])
+    );
+    assert!(rt;
+        first
+            == Some(FirstCommand {
+                position: 2,
+                outcome: Outcome::Refused(Refusal::NoCrl),
+            })
+    );
+    assert!(rt; taken == 4);
     Ok(())
 }
 
@@ -69,27 +95,44 @@ fn add_anchor(alloc: Global, id: u8, octets: &[u8]) -> Result<Command, Fail> {
     Ok(Command::add_anchor([id; 16], certificate)?)
 }
 
-#[test]
-fn an_anchor_goes_once(rt: HostRuntime) -> Result<(), Fail> {
-    let mut store = Store::new(rt.alloc());
-    let add = add_anchor(rt.alloc(), 1, &L[..137])?;
-    assert!(rt; store.apply(1, &add)? == Outcome::Refused(Refusal::Malformed));
-    let add = add_anchor(rt.alloc(), 2, L)?;
-    assert!(rt; store.apply(2, &add)? == Outcome::Applied);
+/// The command that withdraws an anchor.
+fn withdraw(id: u8, anchor: [u8; 32]) -> Command {
+    Command::WithdrawAnchor {
+        id: [id; 16],
+        anchor,
+    }
+}
+
+/// What it comes to in a new store to add a certificate that is cut, then a whole one, and to
+/// withdraw it twice.
+fn added_and_withdrawn(alloc: Global, store: &mut Store) -> Result<[Outcome; 4], Fail>
+    requires { store.old.taken ≡ 0 }
+{
+    let cut = store.apply(1, &add_anchor(alloc, 1, &L[..137])?)?;
+    let added = store.apply(2, &add_anchor(alloc, 2, L)?)?;
     let anchor = match store.anchors() {
         [anchor] => anchor.id,
         _ => [0; 32],
     };
-    let withdraw = Command::WithdrawAnchor {
-        id: [3; 16],
-        anchor,
-    };
-    assert!(rt; store.apply(3, &withdraw)? == Outcome::Applied);
-    let withdraw = Command::WithdrawAnchor {
-        id: [4; 16],
-        anchor,
-    };
-    assert!(rt; store.apply(4, &withdraw)? == Outcome::Refused(Refusal::NoAnchor));
+    let withdrawn = store.apply(3, &withdraw(3, anchor))?;
+    let again = store.apply(4, &withdraw(4, anchor))?;
+    Ok([cut, added, withdrawn, again])
+}
+
+#[test]
+fn an_anchor_goes_once(rt: HostRuntime) -> Result<(), Fail> {
+    let mut store = Store::new(rt.alloc());
+    let outcomes = added_and_withdrawn(rt.alloc(), &mut store);
+    drop(store);
+    assert!(rt;
+        outcomes?
+            == [
+                Outcome::Refused(Refusal::Malformed),
+                Outcome::Applied,
+                Outcome::Applied,
+                Outcome::Refused(Refusal::NoAnchor),
+            ]
+    );
     Ok(())
 }
 
@@ -110,25 +153,34 @@ const OUTCOMES: [Outcome; 8] = [
     Outcome::Applied,
 ];
 
+/// What it comes to in a new store to load the lists, one after another.
+fn loaded(alloc: Global, store: &mut Store) -> Result<[Outcome; 8], Fail>
+    requires { store.old.taken ≡ 0 }
+{
+    Ok([
+        store.apply(1, &load(alloc, 1, NUMBER_2)?)?,
+        store.apply(2, &load(alloc, 2, NUMBER_1)?)?,
+        store.apply(3, &load(alloc, 3, OTHER_2)?)?,
+        store.apply(4, &load(alloc, 4, CRITICAL)?)?,
+        store.apply(5, &load(alloc, 5, NO_NUMBER)?)?,
+        store.apply(6, &load(alloc, 6, NO_NEXT)?)?,
+        store.apply(7, &load(alloc, 7, DELTA)?)?,
+        store.apply(8, &load(alloc, 8, NUMBER_3)?)?,
+    ])
+}
+
 #[test]
 fn lists_are_loaded_and_replaced(rt: HostRuntime) -> Result<(), Fail> {
     let mut store = Store::new(rt.alloc());
-    let outcomes = [
-        store.apply(1, &load(rt.alloc(), 1, NUMBER_2)?)?,
-        store.apply(2, &load(rt.alloc(), 2, NUMBER_1)?)?,
-        store.apply(3, &load(rt.alloc(), 3, OTHER_2)?)?,
-        store.apply(4, &load(rt.alloc(), 4, CRITICAL)?)?,
-        store.apply(5, &load(rt.alloc(), 5, NO_NUMBER)?)?,
-        store.apply(6, &load(rt.alloc(), 6, NO_NEXT)?)?,
-        store.apply(7, &load(rt.alloc(), 7, DELTA)?)?,
-        store.apply(8, &load(rt.alloc(), 8, NUMBER_3)?)?,
-    ];
-    assert!(rt; outcomes == OUTCOMES);
-    assert!(rt; store.crls().len() == 1 && store.deltas().len() == 1);
-    let kept = match store.crls() {
+    let outcomes = loaded(rt.alloc(), &mut store);
+    let is_kept = match store.crls() {
         [kept] => kept.crl.octets() == NUMBER_3,
         _ => false,
     };
-    assert!(rt; kept);
+    let deltas = store.deltas().len();
+    drop(store);
+    assert!(rt; outcomes? == OUTCOMES);
+    assert!(rt; is_kept);
+    assert_eq!(rt; deltas, 1);
     Ok(())
 }
