@@ -21,11 +21,6 @@ const L: &[u8] =
 /// 2026-06-01, in the middle of the certificate's validity.
 const JUNE: i64 = 1_780_272_000;
 
-/// An id: fifteen octets of zero, and this one.
-fn id(last: u8) -> [u8; 16] {
-    [0, 0, 0, 0, 0, 0, 0, 0, 0, 0, 0, 0, 0, 0, 0, last]
-}
-
 /// The SHA-256 of the anchor's certificate.
 fn anchor() -> [u8; 32] {
     let mut hasher = Sha256::new();
@@ -59,18 +54,45 @@ fn chain(alloc: Global, octets: &[u8]) -> Result<Option<Question>, AllocError> {
     Ok(Question::chain(terms(alloc), anchor(), certificates).ok())
 }
 
-/// A store that took the anchor, and then its withdrawal.
-fn store(alloc: Global) -> Result<Option<Answers<DigestCheck>>, AllocError> {
-    let mut answers = Answers::new(alloc, DigestCheck);
-    let Ok(add) = Command::add_anchor(id(1), Octets::copy_of(alloc, R)?) else {
-        return Ok(None);
-    };
-    let _added = answers.push(&add)?;
-    let _withdrawn = answers.push(&Command::WithdrawAnchor {
-        id: id(2),
+/// An id: fourteen octets of zero, and a number.
+fn id_of(number: u16) -> [u8; 16] {
+    let [high, low] = number.to_be_bytes();
+    [0, 0, 0, 0, 0, 0, 0, 0, 0, 0, 0, 0, 0, 0, high, low]
+}
+
+/// The command that adds the anchor.
+fn addition(alloc: Global, id: [u8; 16]) -> Result<Command, AllocError> {
+    match Command::add_anchor(id, Octets::copy_of(alloc, R)?) {
+        Ok(command) => Ok(command),
+        Err(_) => Err(AllocError),
+    }
+}
+
+/// The command of this number: the odd ones add the anchor, the even ones withdraw it.
+fn command(alloc: Global, number: u16) -> Result<Command, AllocError> {
+    let id = id_of(number);
+    if number % 2 == 1 {
+        return addition(alloc, id);
+    }
+    Ok(Command::WithdrawAnchor {
+        id,
         anchor: anchor(),
-    })?;
-    Ok(Some(answers))
+    })
+}
+
+/// Takes so many commands: the anchor and its withdrawal, in turn.
+fn take_in_turn(
+    alloc: Global,
+    answers: &mut Answers<DigestCheck>,
+    count: u16,
+) -> Result<(), AllocError> {
+    for number in 1..=count {
+        let command = command(alloc, number)?;
+        if answers.prefix() < MAX_POSITION {
+            let _outcome = answers.push(&command)?;
+        }
+    }
+    Ok(())
 }
 
 /// The tag of the reply after the first k commands.
@@ -91,15 +113,28 @@ fn tag(answers: &mut Answers<DigestCheck>, k: u32, question: &Question) -> Resul
     )
 }
 
-/// The tags of the replies after so many commands each, and 0 for each where there is no store.
-fn tags(alloc: Global, ks: [u32; 4], question: &Question) -> Result<[u8; 4], AllocError> {
+/// Takes the anchor and its withdrawal. The tags of the replies after so many commands each.
+fn tags_in(
+    alloc: Global,
+    answers: &mut Answers<DigestCheck>,
+    ks: [u32; 4],
+    question: &Question,
+) -> Result<[u8; 4], AllocError> {
+    take_in_turn(alloc, answers, 2)?;
     let mut found = [0; 4];
-    if let Some(mut answers) = store(alloc)? {
-        for place in 0..4 {
-            found[place] = tag(&mut answers, ks[place], question)?;
-        }
+    for place in 0..4 {
+        found[place] = tag(answers, ks[place], question)?;
     }
     Ok(found)
+}
+
+/// The same, in a new store. A store is let go in one place of a function, since each such place is
+/// proved.
+fn tags(alloc: Global, ks: [u32; 4], question: &Question) -> Result<[u8; 4], AllocError> {
+    let mut answers = Answers::new(alloc, DigestCheck);
+    let found = tags_in(alloc, &mut answers, ks, question);
+    drop(answers);
+    found
 }
 
 /// The tags for a chain of this certificate, and 0 for each where there is no question.
@@ -119,24 +154,29 @@ fn a_chain_is_judged_at_every_position(rt: HostRuntime) -> Result<(), Fail> {
     Ok(())
 }
 
-/// What became of the ids 2 and 3 in the store, and how many commands it took.
-fn fate_of_ids(alloc: Global) -> Result<Option<(Option<(u32, Outcome)>, bool, u32)>, AllocError> {
-    let Some(answers) = store(alloc)? else {
-        return Ok(None);
-    };
+/// Takes the anchor and its withdrawal. What became of the ids 2 and 3, and how many commands were
+/// taken.
+fn fates(
+    alloc: Global,
+    answers: &mut Answers<DigestCheck>,
+) -> Result<(Option<(u32, Outcome)>, bool, u32), AllocError> {
+    take_in_turn(alloc, answers, 2)?;
     let second = answers
-        .settled(&id(2))
+        .settled(&id_of(2))
         .map(|first| (first.position, first.outcome));
-    let is_third_known = answers.settled(&id(3)).is_some();
-    let prefix = answers.prefix();
-    let _check = answers.close();
-    Ok(Some((second, is_third_known, prefix)))
+    Ok((
+        second,
+        answers.settled(&id_of(3)).is_some(),
+        answers.prefix(),
+    ))
 }
 
 #[test]
 fn an_id_settles_at_its_first_position(rt: HostRuntime) -> Result<(), Fail> {
-    let found = fate_of_ids(rt.alloc())?;
-    assert_eq!(rt; found, Some((Some((2, Outcome::Applied)), false, 2)));
+    let mut answers = Answers::new(rt.alloc(), DigestCheck);
+    let found = fates(rt.alloc(), &mut answers);
+    let _check = answers.close();
+    assert_eq!(rt; found?, (Some((2, Outcome::Applied)), false, 2));
     Ok(())
 }
 
@@ -171,33 +211,6 @@ fn a_message_out_of_range_is_not_deliverable(rt: HostRuntime) {
     }
 }
 
-/// An id: fourteen octets of zero, and a number.
-fn id_of(number: u16) -> [u8; 16] {
-    let [high, low] = number.to_be_bytes();
-    [0, 0, 0, 0, 0, 0, 0, 0, 0, 0, 0, 0, 0, 0, high, low]
-}
-
-/// A store that took so many commands: the anchor and its withdrawal, in turn.
-fn alternating(alloc: Global, count: u16) -> Result<Option<Answers<DigestCheck>>, AllocError> {
-    let mut answers = Answers::new(alloc, DigestCheck);
-    for number in 0..count {
-        let id = id_of(number);
-        let command = if number % 2 == 0 {
-            match Command::add_anchor(id, Octets::copy_of(alloc, R)?) {
-                Ok(command) => command,
-                Err(_) => return Ok(None),
-            }
-        } else {
-            Command::WithdrawAnchor {
-                id,
-                anchor: anchor(),
-            }
-        };
-        let _outcome = answers.push(&command)?;
-    }
-    Ok(Some(answers))
-}
-
 /// Whether the chain is valid after an odd number of commands, and without an anchor after an even
 /// one, when it is asked and when it is asked again.
 fn is_right(
@@ -209,16 +222,15 @@ fn is_right(
     Ok(tag(answers, k, question)? == wanted && tag(answers, k, question)? == wanted)
 }
 
-/// Whether that is so after each number of 1,100 commands, from the last to the first and from the
-/// first to the last.
-fn are_right(alloc: Global) -> Result<bool, AllocError> {
-    let (Some(mut answers), Some(question)) = (alternating(alloc, 1_100)?, chain(alloc, L)?) else {
+/// Whether that is so after each number of 1,100 commands, which are taken now, from the last to the
+/// first and from the first to the last.
+fn are_right(alloc: Global, answers: &mut Answers<DigestCheck>) -> Result<bool, AllocError> {
+    take_in_turn(alloc, answers, 1_100)?;
+    let Some(question) = chain(alloc, L)? else {
         return Ok(false);
     };
     for k in 0..1_101 {
-        if !is_right(&mut answers, 1_100 - k, &question)?
-            || !is_right(&mut answers, k, &question)?
-        {
+        if !is_right(answers, 1_100 - k, &question)? || !is_right(answers, k, &question)? {
             return Ok(false);
         }
     }
@@ -227,7 +239,10 @@ fn are_right(alloc: Global) -> Result<bool, AllocError> {
 
 #[test]
 fn a_chain_is_judged_after_any_number_of_commands(rt: HostRuntime) -> Result<(), Fail> {
-    assert!(rt; are_right(rt.alloc())?);
+    let mut answers = Answers::new(rt.alloc(), DigestCheck);
+    let found = are_right(rt.alloc(), &mut answers);
+    drop(answers);
+    assert_eq!(rt; found, Ok(true));
     Ok(())
 }
 
@@ -238,7 +253,10 @@ fn octets_at(
     k: u32,
     question: &Question,
 ) -> Result<Vec<u8>, AllocError> {
-    answers.answer(k.min(MAX_POSITION), question)?.octets(alloc)
+    let answer = answers.answer(k.min(MAX_POSITION), question)?;
+    let octets = answer.octets(alloc);
+    drop(answer);
+    octets
 }
 
 /// Takes the anchor as the third command. The tags of the reply after three commands, before it and
@@ -248,9 +266,7 @@ fn grown(
     answers: &mut Answers<DigestCheck>,
     question: &Question,
 ) -> Result<[u8; 2], AllocError> {
-    let Ok(add) = Command::add_anchor(id(3), Octets::copy_of(alloc, R)?) else {
-        return Ok([0; 2]);
-    };
+    let add = addition(alloc, id_of(3))?;
     let before = tag(answers, 3, question)?;
     if answers.prefix() != 2 {
         return Ok([0; 2]);
@@ -259,30 +275,25 @@ fn grown(
     Ok([before, tag(answers, 3, question)?])
 }
 
-/// Whether a question is answered alike after one command, when it is asked again and when a
-/// command was taken since.
-fn stays(
-    alloc: Global,
-    answers: &mut Answers<DigestCheck>,
-    question: &Question,
-) -> Result<bool, AllocError> {
-    let first = octets_at(alloc, answers, 1, question)?;
-    let again = octets_at(alloc, answers, 1, question)?;
-    let tags = grown(alloc, answers, question)?;
-    let later = octets_at(alloc, answers, 1, question)?;
-    Ok(tags == [6, 1] && first == again && first == later)
-}
-
-/// Whether that is so for a chain.
-fn is_steady(alloc: Global) -> Result<bool, AllocError> {
-    let (Some(mut answers), Some(question)) = (store(alloc)?, chain(alloc, L)?) else {
+/// Takes the anchor and its withdrawal. Whether a chain is answered alike after one command, when it
+/// is asked again and when a command was taken since.
+fn stays(alloc: Global, answers: &mut Answers<DigestCheck>) -> Result<bool, AllocError> {
+    take_in_turn(alloc, answers, 2)?;
+    let Some(question) = chain(alloc, L)? else {
         return Ok(false);
     };
-    stays(alloc, &mut answers, &question)
+    let first = octets_at(alloc, answers, 1, &question)?;
+    let again = octets_at(alloc, answers, 1, &question)?;
+    let tags = grown(alloc, answers, &question)?;
+    let later = octets_at(alloc, answers, 1, &question)?;
+    Ok(tags == [6, 1] && first == again && first == later)
 }
 
 #[test]
 fn an_answer_stays_when_commands_are_taken(rt: HostRuntime) -> Result<(), Fail> {
-    assert!(rt; is_steady(rt.alloc())?);
+    let mut answers = Answers::new(rt.alloc(), DigestCheck);
+    let found = stays(rt.alloc(), &mut answers);
+    drop(answers);
+    assert_eq!(rt; found, Ok(true));
     Ok(())
 }

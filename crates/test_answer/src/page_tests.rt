@@ -101,9 +101,10 @@ pub(crate) fn answer_octets(
     let Some(k) = question.terms().k else {
         return Ok(Vec::new(alloc));
     };
-    answers
-        .answer(k.min(MAX_POSITION), &question)?
-        .octets(alloc)
+    let answer = answers.answer(k.min(MAX_POSITION), &question)?;
+    let octets = answer.octets(alloc);
+    drop(answer);
+    octets
 }
 
 #[test]
