@@ -222,8 +222,8 @@ fn is_right(
     Ok(tag(answers, k, question)? == wanted && tag(answers, k, question)? == wanted)
 }
 
-/// Whether that is so after each number of 1,100 commands, which are taken now, from the last to the
-/// first and from the first to the last.
+/// Whether that is so after each number of 1,100 commands, which are taken now, from the last to
+/// the first and from the first to the last.
 fn are_right(alloc: Global, answers: &mut Answers<DigestCheck>) -> Result<bool, AllocError> {
     take_in_turn(alloc, answers, 1_100)?;
     let Some(question) = chain(alloc, L)? else {
@@ -275,8 +275,8 @@ fn grown(
     Ok([before, tag(answers, 3, question)?])
 }
 
-/// Takes the anchor and its withdrawal. Whether a chain is answered alike after one command, when it
-/// is asked again and when a command was taken since.
+/// Takes the anchor and its withdrawal. Whether a chain is answered alike after one command, when
+/// it is asked again and when a command was taken since.
 fn stays(alloc: Global, answers: &mut Answers<DigestCheck>) -> Result<bool, AllocError> {
     take_in_turn(alloc, answers, 2)?;
     let Some(question) = chain(alloc, L)? else {
