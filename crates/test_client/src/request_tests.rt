@@ -9,9 +9,10 @@ ghost use Rattle.ts_command.specs.Octets.{octets_of};
 use std::alloc::{AllocError, Global};
 use std::test::Fail;
 use ts_answer::Answers;
-use ts_client::{Ending, Saying, Upkeep, ask, submit, tend};
+use ts_client::{ask, submit, tend};
 use ts_command::Command;
 use ts_disk::MemDisk;
+use ts_exchange::{Ending, Saying, Upkeep};
 use ts_explain::explanation;
 use ts_node::Node;
 use ts_question::{Question, Reply};
@@ -29,7 +30,8 @@ const QUESTION: &[u8] =
 /// A new node that is alone, in memory.
 fn lone(alloc: Global) -> Result<Option<Lone>, AllocError>
     ensures { IfOk result (λ found. IfSome found
-        (λ peer. IsSound state_of octets_of ⟦<Answers<DigestCheck> as ts_node::Machine<Command>>⟧.commands peer.server.node)) }
+        (λ peer. IsSound state_of octets_of
+        ⟦<Answers<DigestCheck> as ts_node::Machine<Command>>⟧.commands peer.server.node)) }
 {
     let mut a = MemDisk::new(alloc, Vec::new(alloc))?;
     let mut b = MemDisk::new(alloc, Vec::new(alloc))?;

@@ -1,7 +1,7 @@
 //! What is printed of the rows of a page. The texts were written by hand.
 
 use std::test::Fail;
-use ts_client::step_line;
+use ts_exchange::step_line;
 use ts_render::{row_fields, row_text, write_row};
 use ts_show::Line;
 use ts_sync::{PlanStep, StepKind};

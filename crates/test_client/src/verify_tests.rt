@@ -4,7 +4,7 @@ use std::alloc::Global;
 use std::fs;
 use std::test::Fail;
 use ts_cli::{Task, task_of};
-use ts_client::{TaskFault, verify_files};
+use ts_offline::{TaskFault, verify_files};
 
 /// A certificate of P-256 under its own key, which openssl made: CN=p256.
 const PEM: &str =

@@ -3,14 +3,15 @@
 
 ghost use Rattle.std.specs.Prelude.{◌≡◌, ◌≤◌, OnErr, Ok, true, false};
 ghost use Rattle.ts_cli.specs.Says.{IsInRange};
-ghost use Rattle.ts_client.specs.declared.ended.Ending.TheVariants.{Well, Refused};
+ghost use Rattle.ts_exchange.specs.declared.ending.Ending.TheVariants.{Well, Refused};
 
 use std::io;
 use std::io::Input;
 use std::process::ExitCode;
 use ts_cli::{Task, report, task_of_process};
-use ts_client::{Ending, TaskFault, verify_files};
+use ts_exchange::Ending;
 use ts_lab::lab;
+use ts_offline::{TaskFault, verify_files};
 use ts_tasks::run;
 
 /// Ends with the status of the task that the command line asks for, and with 2 for a wrong command

@@ -2,13 +2,13 @@
 
 ghost use Rattle.std.specs.Prelude.{◌≤◌, IfOk};
 
-use crate::keys::draw;
 use std::alloc::Global;
 use std::io::{ErrorKind, Read, Write};
 use std::net::{Net, OpenStream, Shutdown};
 use std::random::RandomSource;
 use ts_access::{EntranceFault, Key, Visitor};
 use ts_guard::MAX_CONTENT;
+use ts_keyring::draw;
 use ts_serve::{Peer, READ_LIMIT, ServeFault, TcpPeer, connect, set_up, write_octets};
 use ts_wire::FrameFault;
 
@@ -135,7 +135,7 @@ impl<N: Net + RandomSource> Peer for KeyedPeer<'_, N> {
     /// As a `TcpPeer`; `Cut` where the node ends the connection before it sends a challenge;
     /// `Frame` where it wants no key; `Read` where a record is not one of its key.
     fn exchange(&mut self, octets: &[u8]) -> Result<Vec<u8>, ServeFault> {
-        let Ok(nonce) = draw(self.net) else {
+        let Some(nonce) = draw(self.net) else {
             return Err(ServeFault::Read);
         };
         let Some(mut stream) = connect(self.net, self.address.as_str()) else {

@@ -1,18 +1,17 @@
 //! What a node's store holds is asked for, page after page, and printed.
 
-use crate::ended::Ending;
-use crate::fault::TaskFault;
 use crate::keyed::ReachedNode;
-use crate::making::put;
-use crate::requests::{answer_from, say, server_at, tell};
+use crate::requests::{answer_from, server_at, tell};
 use std::alloc::Global;
 use std::io::Print;
 use std::net::Net;
 use std::random::RandomSource;
 use std::rt::Files;
 use ts_cli::Reach;
+use ts_exchange::{Ending, PageWalk, Rows};
 use ts_listing::missing;
-use ts_question::{Question, Reply, Terms};
+use ts_offline::{TaskFault, put, say};
+use ts_question::Reply;
 use ts_render::{row_fields, row_text, write_row};
 use ts_serve::Peer;
 use ts_show::Line;
@@ -24,13 +23,6 @@ const MAX_PAGES: u32 = 16_384;
 /// The most pages of a store, which has at most 2,304 rows: 36, and some for a node of another
 /// version.
 const MAX_STORE_PAGES: u32 = 64;
-
-/// What rows are asked for.
-#[derive(Clone, Copy, Debug, PartialEq, Eq)]
-pub(crate) enum Rows {
-    Store,
-    Log,
-}
 
 /// A page that a node answered with.
 #[derive(Drop)]
@@ -50,23 +42,16 @@ pub(crate) struct TooFew {
     prefix: u32,
 }
 
-/// Asks a peer for a page, after so many rows.
+/// Asks a peer for the next page.
 fn page_of<P: Peer>(
     alloc: Global,
     peer: &mut P,
-    kind: Rows,
-    k: Option<u32>,
-    from: u32,
+    walk: &PageWalk,
 ) -> Result<Result<Page, TooFew>, TaskFault>
     requires { P.is_ready peer.old }
     ensures { P.is_ready peer.new }
 {
-    let terms = Terms::plain(alloc, k);
-    let question = match kind {
-        Rows::Store => Question::store(terms, from),
-        Rows::Log => Question::log(terms, from),
-    };
-    let Ok(question) = question else {
+    let Ok(question) = walk.question(alloc) else {
         return Err(TaskFault::OutOfLimits);
     };
     let answer = answer_from(alloc, peer, question)?;
@@ -138,8 +123,8 @@ fn say_head(rt: &impl Print, alloc: Global, kind: Rows, page: &Page) -> Result<(
     say(rt, format!(in alloc; "{word} {k} {total}\n")?.as_str())
 }
 
-/// Asks the server at an address for all rows from a place on, page after page at one k, and prints
-/// a line of each; before them, but for JSON, k and how many rows there are.
+/// Asks the server at an address for all rows of a walk, page after page at one k, and prints a
+/// line of each; before them, but for JSON, k and how many rows there are.
 ///
 /// # Errors
 ///
@@ -147,27 +132,22 @@ fn say_head(rt: &impl Print, alloc: Global, kind: Rows, page: &Page) -> Result<(
 pub(crate) fn print_rows(
     rt: &(impl AllocGlobal + Files + Net + RandomSource + Print + Eprint),
     reach: &Reach,
-    kind: Rows,
-    k: Option<u32>,
-    from: u32,
+    mut walk: PageWalk,
     json: bool,
 ) -> Result<Ending, TaskFault> {
     let alloc = rt.alloc();
     let mut server = server_at(rt, alloc, reach)?;
-    let (mut k, mut from) = (k, from);
     for number in 0..MAX_PAGES {
-        let page = page_of(alloc, &mut server, kind, k, from);
+        let page = page_of(alloc, &mut server, &walk);
         let page = match tell(rt, reach, page)? {
             Ok(page) => page,
             Err(few) => return Ok(say_too_few(rt, few)),
         };
         if number == 0 && !json {
-            say_head(rt, alloc, kind, &page)?;
+            say_head(rt, alloc, walk.rows, &page)?;
         }
-        print_page(rt, alloc, json, from, &page)?;
-        k = Some(page.k);
-        from = from.saturating_add(page.rows.len().min(u32::MAX as usize) as u32);
-        if page.rows.is_empty() || from >= page.total {
+        print_page(rt, alloc, json, walk.from, &page)?;
+        if !walk.pass(page.k, page.total, &page.rows) {
             return Ok(Ending::Well);
         }
     }
@@ -182,24 +162,21 @@ pub(crate) fn all_rows<R: Net + RandomSource>(
     k: Option<u32>,
 ) -> Result<Result<Vec<Vec<u8>>, TooFew>, TaskFault> {
     let mut all = Vec::new(alloc);
-    let (mut k, mut from) = (k, 0u32);
+    let mut walk = PageWalk {
+        rows: Rows::Store,
+        k,
+        from: 0,
+    };
     for _ in 0..MAX_STORE_PAGES {
-        let page = match page_of(alloc, server, Rows::Store, k, from)? {
+        let page = match page_of(alloc, server, &walk)? {
             Ok(page) => page,
             Err(few) => return Ok(Err(few)),
         };
-        let Page {
-            k: known,
-            total,
-            rows,
-        } = page;
-        k = Some(known);
-        let count = rows.len().min(u32::MAX as usize) as u32;
-        for row in rows {
+        let is_more = walk.pass(page.k, page.total, &page.rows);
+        for row in page.rows {
             all.push(row)?;
         }
-        from = from.saturating_add(count);
-        if count == 0 || from >= total {
+        if !is_more {
             return Ok(Ok(all));
         }
     }

@@ -1,10 +1,10 @@
 //! Time passes.
 
-use crate::fault::TaskFault;
 use mio::{Events, Poll};
 use std::alloc::Global;
 use std::net::Net;
 use std::time::Duration;
+use ts_offline::TaskFault;
 
 /// Waits so many milliseconds.
 ///

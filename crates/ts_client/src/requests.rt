@@ -2,12 +2,7 @@
 
 ghost use Rattle.std.specs.Prelude.{All};
 
-use crate::ended::{Ending, ending_by, ending_of};
-use crate::fault::TaskFault;
-use crate::files::read_file;
 use crate::keyed::ReachedNode;
-use crate::keys::key_in;
-use crate::making::put;
 use crate::waiting::submit_and_wait;
 use std::alloc::Global;
 use std::io::Print;
@@ -17,50 +12,24 @@ use std::rt::{Clock, Files};
 use std::time::Duration;
 use ts_cli::Reach;
 use ts_command::Command;
+use ts_exchange::{
+    Ending, Saying, answer_in, answer_to_question, ending_by, request_octets, submit_saying,
+};
 use ts_explain::explanation;
+use ts_offline::{TaskFault, key_in, put, read_file, say};
 use ts_question::{Answer, Question};
 use ts_serve::{Peer, TcpPeer, carry};
 use ts_show::reply_text;
-use ts_wire::{Feed, FeedError, Frame, FrameFault, WriteError, write_frame};
-
-/// The one frame that a peer answers a request with.
-fn frame_of(alloc: Global, octets: &[u8]) -> Result<Frame, TaskFault> {
-    let mut feed = Feed::new(alloc);
-    feed.push(octets)?;
-    let frame = match feed.take() {
-        Ok(Some(frame)) => frame,
-        Ok(None) => return Err(TaskFault::Cut),
-        Err(FeedError::Frame(fault)) => return Err(TaskFault::Frame(fault)),
-        Err(FeedError::Memory) => return Err(TaskFault::Memory),
-    };
-    let fault = match &frame {
-        Frame::NodeFault { fault } => Some(TaskFault::Node(*fault)),
-        Frame::FrameFault { fault } => Some(TaskFault::Frame(*fault)),
-        _ if !feed.is_empty() => Some(TaskFault::Frame(FrameFault::Trailing)),
-        _ => None,
-    };
-    match fault {
-        Some(fault) => {
-            drop(frame);
-            Err(fault)
-        }
-        None => Ok(frame),
-    }
-}
+use ts_wire::{Frame, FrameFault};
 
 /// Sends a request to a peer, and returns the frame that it is answered with.
 pub fn answer_of<P: Peer>(alloc: Global, peer: &mut P, request: &Frame) -> Result<Frame, TaskFault>
     requires { P.is_ready peer.old }
     ensures { P.is_ready peer.new }
 {
-    let mut octets = Vec::new(alloc);
-    match write_frame(alloc, &mut octets, request) {
-        Ok(()) => {}
-        Err(WriteError::Memory) => return Err(TaskFault::Memory),
-        Err(WriteError::Length) => return Err(TaskFault::Frame(FrameFault::Length)),
-    }
-    let answer = peer.exchange(&octets)?;
-    frame_of(alloc, &answer)
+    let octets = request_octets(alloc, request)?;
+    let answered = peer.exchange(&octets)?;
+    Ok(answer_in(alloc, &answered)?)
 }
 
 /// Sends a request that is not needed afterwards, and returns the frame that it is answered with.
@@ -77,36 +46,6 @@ pub(crate) fn answer_to<P: Peer>(
     answer
 }
 
-/// What a node answered, as a client says it.
-#[derive(Debug, Drop)]
-pub struct Saying {
-    /// The line that is printed.
-    pub line: String,
-    /// How the task ends.
-    pub ended: Ending,
-}
-
-/// The line that reports the answer to a command, and how the task ends.
-fn submit_said(alloc: Global, answer: &Frame) -> Result<Saying, TaskFault> {
-    match answer {
-        Frame::Started { position, ballot } => {
-            let (position, ballot) = (*position, *ballot);
-            Ok(Saying {
-                line: format!(in alloc; "submit started {position} {ballot}\n")?,
-                ended: Ending::Well,
-            })
-        }
-        Frame::Settled { position, outcome } => {
-            let (position, outcome) = (*position, *outcome);
-            Ok(Saying {
-                line: format!(in alloc; "submit settled {position} {outcome}\n")?,
-                ended: ending_of(outcome),
-            })
-        }
-        _ => Err(TaskFault::Frame(FrameFault::Kind)),
-    }
-}
-
 /// Submits a command to a peer. The line that says what it is answered, and how the task ends.
 ///
 /// # Errors
@@ -117,9 +56,9 @@ pub fn submit<P: Peer>(alloc: Global, peer: &mut P, command: Command) -> Result<
     ensures { P.is_ready peer.new }
 {
     let answer = answer_to(alloc, peer, Frame::Submit { command })?;
-    let said = submit_said(alloc, &answer);
+    let said = submit_saying(alloc, &answer);
     drop(answer);
-    said
+    Ok(said?)
 }
 
 /// The line that says what a question is answered.
@@ -138,13 +77,8 @@ pub(crate) fn answer_from<P: Peer>(
     requires { P.is_ready peer.old }
     ensures { P.is_ready peer.new }
 {
-    match answer_to(alloc, peer, Frame::Question { question })? {
-        Frame::Answer { answer } => Ok(answer),
-        other => {
-            drop(other);
-            Err(TaskFault::Frame(FrameFault::Kind))
-        }
-    }
+    let frame = answer_to(alloc, peer, Frame::Question { question })?;
+    Ok(answer_to_question(frame)?)
 }
 
 /// Asks a peer a question, and gives the line that says the answer.
@@ -158,14 +92,6 @@ pub fn ask<P: Peer>(alloc: Global, peer: &mut P, question: Question) -> Result<S
 {
     let answer = answer_from(alloc, peer, question)?;
     ask_line(alloc, &answer)
-}
-
-/// Prints a line.
-pub fn say(rt: &impl Print, line: &str) -> Result<(), TaskFault> {
-    match print!(rt; "{line}") {
-        Ok(()) => Ok(()),
-        Err(_) => Err(TaskFault::Write),
-    }
 }
 
 /// Says on standard error what kept a server from answering, where one did not. What it is given.
@@ -218,15 +144,14 @@ fn submit_for<R: Files + Net + Clock + RandomSource + Eprint>(
     let mut server = server_at(rt, alloc, reach)?;
     let longest = Duration::from_secs(seconds as u64);
     let answer = submit_and_wait(rt, alloc, &mut server, command, longest)?;
-    let said = match &answer {
-        Frame::Settled { .. } => submit_said(alloc, &answer),
-        _ => {
-            let _ = eprintln!(rt; "trustd: not chosen within {seconds} seconds; it may be later");
-            Err(TaskFault::Unknown)
-        }
-    };
+    if !matches!(&answer, Frame::Settled { .. }) {
+        drop(answer);
+        let _ = eprintln!(rt; "trustd: not chosen within {seconds} seconds; it may be later");
+        return Err(TaskFault::Unknown);
+    }
+    let said = submit_saying(alloc, &answer);
     drop(answer);
-    said
+    Ok(said?)
 }
 
 /// Submits the command that a file holds to the server at an address, and prints what it is

@@ -1,22 +1,21 @@
 //! A task of a client is run.
 
-ghost use Rattle.std.specs.Prelude.{◌≡◌, IsErr, Ok, OnErr, OnOk};
+ghost use Rattle.std.specs.Prelude.{◌≡◌, ◌-◌, IsErr, Ok, OnErr, OnOk};
 ghost use Rattle.ts_cli.specs.Says.{IsInRange};
-ghost use Rattle.ts_client.specs.declared.ended.Ending.TheVariants.{Well};
+ghost use Rattle.ts_exchange.specs.declared.ending.Ending.TheVariants.{Well};
+ghost use Rattle.ts_exchange.specs.declared.walk.Rows.TheVariants.{Log, Store};
 
-use crate::ended::Ending;
-use crate::fault::TaskFault;
-use crate::keys::print_key;
-use crate::listing::{Rows, print_diff, print_rows};
-use crate::making::{make_command, make_question, print_id, show_file};
+use crate::listing::{print_diff, print_rows};
 use crate::requests::{ask_file, carry_messages, submit_file};
 use crate::syncing::sync_store;
-use crate::upkeep::{Upkeep, print_state, tend_server};
+use crate::upkeep::{print_state, tend_server};
 use std::io::Print;
 use std::net::Net;
 use std::random::RandomSource;
 use std::rt::{Clock, Files};
 use ts_cli::Task;
+use ts_exchange::{Ending, PageWalk, Rows, Upkeep};
+use ts_offline::{TaskFault, make_command, make_question, print_id, print_key, show_file};
 
 /// A task that asks for no answer ends well, unless it fails.
 pub fn well(ended: Result<(), TaskFault>) -> Result<Ending, TaskFault>
@@ -26,6 +25,28 @@ pub fn well(ended: Result<(), TaskFault>) -> Result<Ending, TaskFault>
     match ended {
         Ok(()) => Ok(Ending::Well),
         Err(fault) => Err(fault),
+    }
+}
+
+/// The walk over what a store holds.
+fn store_walk(k: Option<u32>) -> PageWalk
+    ensures { result ≡ record { rows = Store; k = k; from = 0 } }
+{
+    PageWalk {
+        rows: Rows::Store,
+        k,
+        from: 0,
+    }
+}
+
+/// The walk over the commands that a store took, from a position on.
+fn log_walk(from: u32, k: Option<u32>) -> PageWalk
+    ensures { result ≡ record { rows = Log; k = k; from = from - 1 } }
+{
+    PageWalk {
+        rows: Rows::Log,
+        k,
+        from: from.saturating_sub(1),
     }
 }
 
@@ -49,13 +70,13 @@ pub fn run<R: AllocGlobal + Files + Net + Clock + RandomSource + Print + Eprint 
             check,
             explain,
         } => ask_file(rt, reach, file.as_str(), *check, *explain),
-        Task::Store { reach, k, json } => print_rows(rt, reach, Rows::Store, *k, 0, *json),
+        Task::Store { reach, k, json } => print_rows(rt, reach, store_walk(*k), *json),
         Task::Log {
             reach,
             from,
             k,
             json,
-        } => print_rows(rt, reach, Rows::Log, *k, from.saturating_sub(1), *json),
+        } => print_rows(rt, reach, log_walk(*from, *k), *json),
         Task::Diff { reach, old, new } => print_diff(rt, reach, *old, *new),
         Task::Sync(words) => sync_store(rt, words),
         other => well(run_other(rt, other)),

@@ -1,14 +1,8 @@
 //! A store is made to hold what files hold.
 
-use crate::ended::{Ending, ending_of};
-use crate::fault::TaskFault;
-use crate::folders::files_of;
 use crate::keyed::ReachedNode;
 use crate::listing::{all_rows, say_too_few};
-use crate::making::{draw_id, put};
-use crate::material::{is_certificate, values_in};
 use crate::requests::{server_at, tell};
-use crate::steps::{Value, WantedFiles, command_of, held_in, step_line, steps_from, value_of};
 use crate::vouching::vouch_for_each;
 use crate::waiting::submit_and_wait;
 use std::alloc::{AllocError, Global};
@@ -19,6 +13,10 @@ use std::rt::{Clock, Files};
 use std::time::Duration;
 use ts_cli::SyncWords;
 use ts_command::Outcome;
+use ts_exchange::{
+    Ending, Value, WantedFiles, command_of, ending_of, held_in, step_line, steps_from, value_of,
+};
+use ts_offline::{TaskFault, draw_id, files_of, is_certificate, put, values_in};
 use ts_show::{Kind, Line};
 use ts_sync::PlanStep;
 use ts_wire::Frame;
@@ -89,7 +87,9 @@ fn steps_to<R: Files + Net + Clock + RandomSource + Eprint>(
             return Ok(None);
         }
     };
-    let held = held_in(alloc, &rows)?;
+    let Some(held) = held_in(alloc, &rows)? else {
+        return Err(TaskFault::Field);
+    };
     let steps = steps_from(alloc, &held, wanted)?;
     let loaded = loaded_by(alloc, wanted, &steps)?;
     vouch_for_each(rt, alloc, words, &wanted.anchors, &loaded)?;

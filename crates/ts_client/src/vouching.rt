@@ -1,79 +1,13 @@
-//! A CRL is checked before the command that loads it is written.
+//! CRLs are checked before the commands that load them are submitted.
 
-use crate::clock::now;
-use crate::fault::TaskFault;
-use crate::material::octets_of;
-use crate::steps::Value;
 use std::alloc::Global;
 use std::rt::{Clock, Files};
 use ts_cert::Cert;
-use ts_check::NativeCheck;
 use ts_cli::SyncWords;
 use ts_crl::Crl;
+use ts_exchange::Value;
+use ts_offline::{TaskFault, issuers_in, now, octets_of, vouch_by};
 use ts_show::Kind;
-use ts_time::Moment;
-use ts_vouch::vouch;
-
-/// The certificates of those who may have signed the CRL.
-fn issuers_in<'a>(
-    rt: &impl Eprint,
-    alloc: Global,
-    octets: &'a [Vec<u8>],
-) -> Result<Vec<Cert<'a>>, TaskFault> {
-    let mut issuers = Vec::new(alloc);
-    for value in octets {
-        match Cert::read(value) {
-            Ok(cert) => issuers.push(cert)?,
-            Err(fault) => {
-                let (rule, at) = (fault.kind, fault.at);
-                let _ = eprintln!(rt; "trustd: --issuer: no certificate: {rule} at {at}");
-                return Err(TaskFault::Field);
-            }
-        }
-    }
-    Ok(issuers)
-}
-
-/// Vouches for the CRL that a file holds by these certificates. Standard error says what speaks
-/// against it.
-fn vouch_by(
-    rt: &impl Eprint,
-    path: &str,
-    octets: &[u8],
-    issuers: &[Cert<'_>],
-    moment: Moment,
-) -> Result<(), TaskFault> {
-    let Ok(crl) = Crl::read(octets) else {
-        let _ = eprintln!(rt; "trustd: {path}: no CRL that a store takes");
-        return Err(TaskFault::BadCrl);
-    };
-    match vouch(&crl, issuers, moment, &NativeCheck) {
-        Ok(()) => Ok(()),
-        Err(doubt) => {
-            let _ = eprintln!(rt; "trustd: {path}: {doubt}");
-            Err(TaskFault::BadCrl)
-        }
-    }
-}
-
-/// Vouches for the CRL that a file holds, at the moment of the clock, by the certificates of some
-/// files. Standard error says what speaks against it.
-///
-/// # Errors
-///
-/// Those of the files; `Field` where one holds no certificate; `Clock`; `BadCrl` where the octets
-/// are no CRL, or something speaks against it.
-pub(crate) fn vouch_for<R: Files + Clock + Eprint>(
-    rt: &R,
-    alloc: Global,
-    path: &str,
-    octets: &[u8],
-    issuers: &[String],
-) -> Result<(), TaskFault> {
-    let given = octets_of(rt, alloc, issuers, Kind::Certificate)?;
-    let issuers = issuers_in(rt, alloc, &given)?;
-    vouch_by(rt, path, octets, &issuers, now(rt)?)
-}
 
 /// Whether each of these is a CRL that a store takes; standard error says which one is none.
 fn are_crls(rt: &impl Eprint, crls: &[&Value]) -> bool {
@@ -92,7 +26,8 @@ fn are_crls(rt: &impl Eprint, crls: &[&Value]) -> bool {
 ///
 /// # Errors
 ///
-/// Those of [`vouch_for`].
+/// Those of the files; `Field` where one holds no certificate; `Clock`; `BadCrl` where the octets
+/// are no CRL, or something speaks against it.
 pub(crate) fn vouch_for_each<R: Files + Clock + Eprint>(
     rt: &R,
     alloc: Global,

@@ -1,6 +1,5 @@
 //! A command is submitted, and waited for.
 
-use crate::fault::TaskFault;
 use crate::keyed::ReachedNode;
 use crate::pausing::pause;
 use crate::requests::answer_of;
@@ -10,6 +9,7 @@ use std::random::RandomSource;
 use std::rt::Clock;
 use std::time::{Duration, Instant};
 use ts_command::Command;
+use ts_offline::TaskFault;
 use ts_wire::Frame;
 
 /// How many milliseconds pass before the node is first asked for a command's outcome. Each time it

@@ -9,7 +9,8 @@ use std::rt::Clock;
 use ts_access::Key;
 use ts_links::reaching::take_some;
 use ts_links::{Connections, Service, Stage};
-use ts_sockets::{Carrier, Door, PIECE, finish, read_once, shut_if_done, write_last};
+use ts_peers::Carrier;
+use ts_sockets::{Door, PIECE, finish, read_once, shut_if_done, write_last};
 
 /// The most requests of one connection that are taken before the others have their turn.
 const TURNS: u32 = 64;

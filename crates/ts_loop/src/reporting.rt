@@ -2,7 +2,7 @@
 
 use crate::showing::ShownMetrics;
 use std::alloc::{AllocError, Global};
-use ts_sockets::Line;
+use ts_peers::Line;
 
 /// How many milliseconds a report is given out for.
 pub(crate) const FRESH: u64 = 1_000;

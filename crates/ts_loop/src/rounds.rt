@@ -10,7 +10,8 @@ use mio::{Events, Token};
 use std::rt::Clock;
 use ts_links::reaching::close;
 use ts_links::{Connections, Deadlines, Service};
-use ts_sockets::{Carrier, Counts, Door, PEERS, PIECE, Why};
+use ts_peers::{Carrier, PEERS};
+use ts_sockets::{Counts, Door, PIECE, Why};
 
 /// The token of the listener. The door of a slot has the slot's number.
 pub(crate) const LISTENER: Token = Token(usize::MAX);

@@ -29,11 +29,10 @@ use ts_command::{Command, Outcome};
 use ts_disk::Disk;
 use ts_links::{Connections, Service};
 use ts_node::{Identity, Machine};
+use ts_peers::{Carrier, Group, PeerAddress};
 use ts_question::{Answer, Question};
 use ts_serve::Server;
-use ts_sockets::{
-    Accepts, Access, Carrier, Counts, Door, Entry, Group, Limits, PIECE, PeerAddress, accept_some,
-};
+use ts_sockets::{Accepts, Access, Counts, Door, Entry, Limits, PIECE, accept_some};
 
 /// How many milliseconds a round waits at most.
 const ROUND: u64 = 50;
@@ -138,7 +137,7 @@ fn seconds_of<R: Clock>(rt: &R) -> Option<i64> {
 
 impl Edge {
     /// The listener alone, without places for connections.
-    fn listening<R: Net + Clock>(
+    fn with_listener<R: Net + Clock>(
         rt: &R,
         alloc: Global,
         address: &str,
@@ -194,7 +193,7 @@ impl Edge {
         group: &Group,
         access: &Access<'_>,
     ) -> Result<Edge, LoopFault> {
-        let mut edge = Edge::listening(rt, alloc, address, own, group, access)?;
+        let mut edge = Edge::with_listener(rt, alloc, address, own, group, access)?;
         match edge.prepare(rt, slots, own, group, access) {
             Ok(()) => Ok(edge),
             Err(fault) => {

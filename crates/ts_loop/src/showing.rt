@@ -6,8 +6,9 @@ use std::fs;
 use std::io::Read;
 use std::rt::Files;
 use ts_meter::Meter;
+use ts_peers::Carrier;
 use ts_site::{Board, Label, Metric, PeerLine};
-use ts_sockets::{Carrier, Counts};
+use ts_sockets::Counts;
 
 /// What is shown.
 #[derive(Clone, Copy)]

@@ -15,8 +15,9 @@ use std::alloc::Global;
 use std::net::Net;
 use std::rt::Clock;
 use ts_links::{Connections, Service};
+use ts_peers::Carrier;
 use ts_site::{Board, Face, Scene};
-use ts_sockets::{ACCEPTS, Accepts, Access, Carrier, Counts, Limits, PIECE, Socket, Why};
+use ts_sockets::{ACCEPTS, Accepts, Access, Counts, Limits, PIECE, Socket, Why};
 
 /// The token of the listener. The doors follow.
 pub(crate) const WEB: usize = 1_000_000;

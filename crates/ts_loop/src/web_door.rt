@@ -8,8 +8,9 @@ use mio::event::Event;
 use std::alloc::Global;
 use std::rt::Clock;
 use ts_links::{Connections, Service};
+use ts_peers::{Carrier, ask, first_of};
 use ts_site::{Board, Face, Scene};
-use ts_sockets::{Carrier, PIECE, Socket, ask, first_of};
+use ts_sockets::{PIECE, Socket};
 use ts_wire::Frame;
 
 /// The most requests of one connection that are answered before the others have their turn.

@@ -7,6 +7,7 @@ use std::alloc::Global;
 use std::random::RandomSource;
 use ts_access::{Entrance, EntranceFault, Key};
 use ts_guard::MAX_CONTENT;
+use ts_keyring::draw;
 use ts_links::Connections;
 use ts_links::reaching::{arrive, leave};
 use ts_queue::Queue;
@@ -36,13 +37,6 @@ pub(crate) enum HandOver {
     Some,
     /// The connection failed: nothing more is let through.
     Failed,
-}
-
-/// Thirty-two octets that nobody else draws.
-pub(crate) fn draw(source: &impl RandomSource) -> Option<[u8; 32]> {
-    let mut octets = [0; 32];
-    source.fill_bytes(&mut octets).ok()?;
-    Some(octets)
 }
 
 impl Lock {

@@ -15,7 +15,7 @@ pub const PIECE: usize = 16_384;
 /// kept here until the socket refuses it.
 #[derive(Drop)]
 pub struct Socket {
-    pub(crate) stream: TcpStream,
+    stream: TcpStream,
     /// A read may give something.
     readable: bool,
     /// A write may take something.
@@ -39,7 +39,7 @@ impl Socket {
     }
 
     /// The socket of a connection that is being made: an event says when it may be written.
-    pub(crate) fn dialed(stream: TcpStream) -> Socket {
+    pub fn dialed(stream: TcpStream) -> Socket {
         Socket {
             stream,
             readable: false,
@@ -47,6 +47,12 @@ impl Socket {
             ended: false,
             shut: false,
         }
+    }
+
+    /// Whether a connection that is being made is there. What is written leaves at once then.
+    pub fn is_made(&self) -> bool {
+        let _nodelay = self.stream.set_nodelay(true);
+        matches!(self.stream.take_error(), Ok(None)) && self.stream.peer_addr().is_ok()
     }
 
     /// An event of the socket.

@@ -6,10 +6,10 @@ use crate::locking::RecordLock;
 use std::alloc::Global;
 use std::fs::File;
 use std::rt::Files;
-use ts_client::{TaskFault, fault_of, second};
 use ts_command::Command;
 use ts_disk::Disk;
 use ts_file::{FileDisk, create, open};
+use ts_offline::{TaskFault, fault_of, second};
 use ts_record::Record;
 
 /// The two disks of a record that is there: the file, and the one whose name ends in `.b`.

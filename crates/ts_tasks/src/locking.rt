@@ -4,7 +4,7 @@ use std::alloc::Global;
 use std::fs::{File, OpenOptions, TryLockError};
 use std::os::unix::fs::OpenOptionsExt;
 use std::rt::Files;
-use ts_client::{TaskFault, fault_of, second};
+use ts_offline::{TaskFault, fault_of, second};
 
 /// The two files of a record, locked against every other process that locks them so, for as long as
 /// this is kept. The locks go with the process, however it ends.

@@ -13,15 +13,16 @@ use std::random::RandomSource;
 use std::rt::{Clock, Files};
 use ts_answer::Answers;
 use ts_cli::ServeWords;
-use ts_client::{MAX_TABLE, TaskFault, read_within};
 use ts_disk::Disk;
 use ts_loop::{LoopFault, serve_all};
 use ts_memo::{MemoCheck, ServedCheck};
 use ts_meter::{Meter, MeteredDisk};
 use ts_node::Node;
+use ts_offline::{MAX_TABLE, TaskFault, read_within};
+use ts_peers::Group;
 use ts_serve::Server;
 use ts_sig::TableCheck;
-use ts_sockets::{Access, Group, Limits};
+use ts_sockets::{Access, Limits};
 use ts_synod::NodeFault;
 
 /// Makes the record of a node of a group, and says so.

@@ -9,7 +9,9 @@ use std::net::{Net, TcpListener, TcpStream};
 use std::random::RandomSource;
 use std::rt::{Clock, Files};
 use ts_cli::Task;
-use ts_client::{Ending, TaskFault, well};
+use ts_client::well;
+use ts_exchange::Ending;
+use ts_offline::TaskFault;
 
 /// Runs a task of a node or of a client (`ts_client`), but the lab and a verdict without a node,
 /// which end with statuses of their own.

@@ -1,0 +1,5 @@
+pub mod Endings
+pub mod Answers
+pub mod Lines
+pub mod Walk
+pub mod Steps

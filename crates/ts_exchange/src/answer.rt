@@ -1,0 +1,85 @@
+//! Requests are written, and answers read.
+
+ghost use Rattle.std.specs.Prelude.{◌≡◌, None, IfOk, IfErr, MatchResult};
+ghost use Rattle.ts_wire.specs.Frames.{FrameFits, frame_encoding};
+ghost use Rattle.ts_wire.specs.declared.frame.Frame.TheVariants.{Answer as AnswerFrame};
+ghost use Rattle.ts_exchange.specs.Answers.{IsNoAnswer, IsOther, IsTooLong, fault_in};
+
+use crate::fault::ExchangeFault;
+use std::alloc::Global;
+use ts_question::Answer;
+use ts_wire::{Feed, FeedError, Frame, FrameFault, WriteError, write_frame};
+
+/// The octets of a request.
+///
+/// # Errors
+///
+/// `Frame(Length)` exactly where they are more than a frame may have; `Memory`.
+pub fn request_octets(alloc: Global, request: &Frame) -> Result<Vec<u8>, ExchangeFault>
+    ensures encoded { IfOk result (λ octets. octets.items ≡ frame_encoding request.now) }
+    ensures fault { IfErr result (IsTooLong request.now) }
+{
+    let mut octets = Vec::new(alloc);
+    match write_frame(alloc, &mut octets, request) {
+        Ok(()) => Ok(octets),
+        Err(WriteError::Memory) => Err(ExchangeFault::Memory),
+        Err(WriteError::Length) => Err(ExchangeFault::Frame(FrameFault::Length)),
+    }
+}
+
+/// The fault that a frame says, if it says one.
+fn fault_in(frame: &Frame) -> Option<ExchangeFault>
+    ensures { result ≡ fault_in frame.now }
+{
+    match frame {
+        Frame::NodeFault { fault } => Some(ExchangeFault::Node(*fault)),
+        Frame::FrameFault { fault } => Some(ExchangeFault::Frame(*fault)),
+        _ => None,
+    }
+}
+
+/// The one frame that octets are with which a peer answers a request.
+///
+/// # Errors
+///
+/// `Cut` where they are less than a frame; `Frame` with what is in a frame's place, or with what
+/// the peer says of the request, and `Trailing` where more follows the frame; `Node` with the fault
+/// of a node; `Memory`.
+pub fn answer_in(alloc: Global, octets: &[u8]) -> Result<Frame, ExchangeFault>
+    ensures answered { IfOk result (λ frame. FrameFits frame
+        × (octets.now ≡ frame_encoding frame) × (fault_in frame ≡ None)) }
+    ensures fault { IfErr result (IsNoAnswer octets.now) }
+{
+    let mut feed = Feed::new(alloc);
+    feed.push(octets)?;
+    let frame = match feed.take() {
+        Ok(Some(frame)) => frame,
+        Ok(None) => return Err(ExchangeFault::Cut),
+        Err(FeedError::Frame(fault)) => return Err(ExchangeFault::Frame(fault)),
+        Err(FeedError::Memory) => return Err(ExchangeFault::Memory),
+    };
+    let fault = match fault_in(&frame) {
+        Some(fault) => fault,
+        None if feed.is_empty() => return Ok(frame),
+        None => ExchangeFault::Frame(FrameFault::Trailing),
+    };
+    drop(frame);
+    Err(fault)
+}
+
+/// The answer to a question that a frame carries.
+///
+/// # Errors
+///
+/// `Frame(Kind)` exactly where the frame is another one.
+pub fn answer_to_question(frame: Frame) -> Result<Answer, ExchangeFault>
+    ensures { MatchResult result (λ answer. frame ≡ AnswerFrame answer) (IsOther frame) }
+{
+    match frame {
+        Frame::Answer { answer } => Ok(answer),
+        other => {
+            drop(other);
+            Err(ExchangeFault::Frame(FrameFault::Kind))
+        }
+    }
+}

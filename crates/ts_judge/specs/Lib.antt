@@ -1,0 +1,4 @@
+pub mod Given
+pub mod Judgement
+pub mod Vouching
+pub mod inside

@@ -1,0 +1,188 @@
+//! Files for the programs of a client: encoded commands and questions; the ids of anchors and
+//! CRLs; what files hold.
+
+use crate::fault::TaskFault;
+use crate::files::{MAX_SHOWN, read_at_most, read_within, second};
+use crate::material::{certificate_of, certificates_of, crl_of, crls_of, values_of};
+use crate::printing::put;
+use crate::vouching::vouch_for_file;
+use std::alloc::Global;
+use std::fs;
+use std::io::{ErrorKind, Print, Read};
+use std::rt::{Clock, Files};
+use ts_cli::{
+    CommandAction, CommandWords, QuestionWords, command_octets, id_text, question_octets,
+};
+use ts_pem::{PemFault, is_pem, read_certificates, read_crls};
+use ts_show::show;
+
+/// Where ids are drawn from.
+const RANDOM: &str = "/dev/urandom";
+
+/// Sixteen octets that nobody else draws.
+///
+/// # Errors
+///
+/// `File` where the system gives none.
+pub fn draw_id<R: Files>(rt: &R) -> Result<[u8; 16], TaskFault> {
+    let mut id = [0; 16];
+    let Ok(mut file) = fs::open(rt, RANDOM) else {
+        return Err(TaskFault::File);
+    };
+    match file.read_exact(&mut id) {
+        Ok(()) => Ok(id),
+        Err(_) => Err(TaskFault::File),
+    }
+}
+
+/// The id of a command: the one that is given, or a new one, which is printed on standard error, so
+/// that the command can be known again.
+fn id_of(
+    rt: &(impl AllocGlobal + Files + Eprint),
+    words: &CommandWords,
+) -> Result<[u8; 16], TaskFault> {
+    if let Some(id) = words.id {
+        return Ok(id);
+    }
+    let id = draw_id(rt)?;
+    let text = hex::encode(rt.alloc(), id)?;
+    match eprintln!(rt; "{text}") {
+        Ok(()) => Ok(id),
+        Err(_) => Err(TaskFault::Write),
+    }
+}
+
+/// Writes the encoded command that words say to standard output.
+///
+/// # Errors
+///
+/// Those of the file with the certificate or CRL; `BadCrl` where an issuer of the CRL is given
+/// and something speaks against it; `TooLong`; `File` where no id can be drawn; `Write`.
+pub fn make_command(
+    rt: &(impl AllocGlobal + Files + Clock + Print + Eprint),
+    words: &CommandWords,
+) -> Result<(), TaskFault> {
+    let alloc = rt.alloc();
+    let contents = match &words.change {
+        CommandAction::Add { file } => certificate_of(rt, alloc, file.as_str(), words.force)?,
+        CommandAction::Load {
+            file,
+            issuers,
+            unchecked,
+        } => {
+            let octets = crl_of(rt, alloc, file.as_str(), words.force)?;
+            if !*unchecked && !issuers.is_empty() {
+                vouch_for_file(rt, alloc, file.as_str(), &octets, issuers)?;
+            }
+            octets
+        }
+        _ => Vec::new(alloc),
+    };
+    let id = id_of(rt, words)?;
+    let octets = command_octets(alloc, &id, &words.change, &contents)?;
+    put(rt, &octets)
+}
+
+/// The certificates of these files, in their order.
+fn read_chain<R: Files + Eprint>(
+    rt: &R,
+    alloc: Global,
+    files: &[String],
+) -> Result<Vec<Vec<u8>>, TaskFault> {
+    let mut found = Vec::new(alloc);
+    for file in files {
+        for certificate in certificates_of(rt, alloc, file.as_str())? {
+            found.push(certificate)?;
+        }
+    }
+    Ok(found)
+}
+
+/// Writes the encoded question that words say to standard output.
+///
+/// # Errors
+///
+/// Those of the files with the certificates; `OutOfLimits`; `Write`.
+pub fn make_question(
+    rt: &(impl AllocGlobal + Files + Print + Eprint),
+    words: &QuestionWords,
+) -> Result<(), TaskFault> {
+    let alloc = rt.alloc();
+    let certificates = read_chain(rt, alloc, &words.files)?;
+    let octets = question_octets(alloc, words, &certificates)?;
+    put(rt, &octets)
+}
+
+/// Prints the ids by which a store knows the trust anchors or the CRLs in a file, a line each: of
+/// PEM those of its certificates, or where it has none of its CRLs.
+///
+/// # Errors
+///
+/// Those of the file; `Field` where a block is broken; `Write`.
+pub fn print_id(
+    rt: &(impl AllocGlobal + Files + Print + Eprint),
+    file: &str,
+) -> Result<(), TaskFault> {
+    let alloc = rt.alloc();
+    let mut values = certificates_of(rt, alloc, file)?;
+    if values.is_empty() {
+        values = crls_of(rt, alloc, file)?;
+    }
+    for octets in &values {
+        let text = id_text(alloc, octets)?;
+        if println!(rt; "{text}").is_err() {
+            return Err(TaskFault::Write);
+        }
+    }
+    Ok(())
+}
+
+/// The octets of the blocks of a text of PEM, certificates first.
+fn blocks_of(alloc: Global, octets: &[u8]) -> Result<Vec<Vec<u8>>, PemFault> {
+    let mut values = read_certificates(alloc, octets)?;
+    for crl in read_crls(alloc, octets)? {
+        if values.push(crl).is_err() {
+            return Err(PemFault::OutOfMemory);
+        }
+    }
+    Ok(values)
+}
+
+/// Prints what the blocks of a text of PEM hold, one after another.
+fn show_blocks(
+    rt: &(impl AllocGlobal + Print + Eprint),
+    file: &str,
+    octets: &[u8],
+) -> Result<(), TaskFault> {
+    let alloc = rt.alloc();
+    for block in &values_of(rt, file, blocks_of(alloc, octets))? {
+        let text = show(alloc, block, &[])?;
+        put(rt, &text)?;
+    }
+    Ok(())
+}
+
+/// Prints what a file holds; of PEM what each certificate and then each CRL is. A record lies in
+/// two files; where the second can't be read it is taken for an empty one.
+///
+/// # Errors
+///
+/// Those of the file; `TooLong` above 4 GiB; `Field` where a block of PEM is broken; `Write`.
+pub fn show_file(
+    rt: &(impl AllocGlobal + Files + Print + Eprint),
+    file: &str,
+) -> Result<(), TaskFault> {
+    let alloc = rt.alloc();
+    let octets = read_within(rt, alloc, file, MAX_SHOWN)?;
+    if is_pem(&octets) {
+        return show_blocks(rt, file, &octets);
+    }
+    let other = match read_at_most(rt, alloc, second(alloc, file)?.as_str(), MAX_SHOWN) {
+        Ok(Some(other)) => other,
+        Ok(None) => return Err(TaskFault::TooLong),
+        Err(error) if error.kind() == ErrorKind::OutOfMemory => return Err(TaskFault::Memory),
+        Err(_) => Vec::new(alloc),
+    };
+    let text = show(alloc, &octets, &other)?;
+    put(rt, &text)
+}

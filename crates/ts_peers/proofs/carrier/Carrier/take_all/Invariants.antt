@@ -1,0 +1,9 @@
+-- What was taken so far is answered by turns.
+use Rattle.ts_links.specs.Calls.{HasReached}
+use Rattle.ts_peers.proofs.carrier.Carrier.take_all.Given as goal
+
+abbrev pub invariant-loop-step : goal.invariant-loop-step
+invariant-loop-step g l = record {
+  reached : HasReached g.S.Service.turn g.S.Service.keeps l.initial.service l.initial.table l.service l.table;
+  ready : g.S.Service.is_ready l.service;
+}
