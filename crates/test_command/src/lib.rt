@@ -7,8 +7,4 @@
 #[cfg(test)]
 mod command_tests;
 #[cfg(test)]
-mod encoding_tests;
-#[cfg(test)]
-mod field_tests;
-#[cfg(test)]
-mod show_tests;
+mod shown_tests;
