@@ -13,11 +13,11 @@ use ts_client::{ask, submit, tend};
 use ts_command::Command;
 use ts_disk::MemDisk;
 use ts_exchange::{Ending, Saying, Upkeep};
-use ts_explain::explanation;
 use ts_node::Node;
 use ts_question::{Question, Reply};
 use ts_reason::Reason;
 use ts_record::Record;
+use ts_render::explanation;
 use ts_serve::{Server, ServerPeer, carry};
 use ts_sig::DigestCheck;
 

@@ -2,8 +2,8 @@
 
 use std::test::Fail;
 use ts_exchange::step_line;
+use ts_line::Line;
 use ts_render::{row_fields, row_text, write_row};
-use ts_show::Line;
 use ts_sync::{PlanStep, StepKind};
 
 /// The octets of a row, its position, its line, and its JSON object.

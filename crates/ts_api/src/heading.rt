@@ -1,5 +1,9 @@
 //! The header fields of responses.
 
+ghost use Rattle.std.specs.Prelude.{◌≡◌, IfOk};
+ghost use Rattle.http1.specs.Head.{header_parts, pairs};
+ghost use Rattle.ts_api.specs.Heading.{headers_of, phrase_of};
+
 use crate::response::Response;
 use std::alloc::{AllocError, Global};
 use ts_http::Header;
@@ -9,7 +13,9 @@ const POLICY: &str = "default-src 'none'; style-src 'self'; script-src 'self'; \
     form-action 'self'; base-uri 'none'; frame-ancestors 'none'";
 
 /// The reason phrase of a status (RFC 9110 15).
-pub fn phrase_of(status: u16) -> &'static str {
+pub fn phrase_of(status: u16) -> &'static str
+    ensures { result.now ≡ phrase_of status }
+{
     match status {
         200 => "OK",
         202 => "Accepted",
@@ -28,7 +34,9 @@ pub fn phrase_of(status: u16) -> &'static str {
 }
 
 /// A header field.
-fn header(name: &'static str, value: &'static str) -> Header<'static> {
+fn header(name: &'static str, value: &'static str) -> Header<'static>
+    ensures { header_parts result ≡ (name.now, value.now) }
+{
     Header {
         name: name.as_bytes(),
         value: value.as_bytes(),
@@ -36,7 +44,13 @@ fn header(name: &'static str, value: &'static str) -> Header<'static> {
 }
 
 /// The header fields of a response.
-pub fn headers_of(alloc: Global, response: &Response) -> Result<Vec<Header<'static>>, AllocError> {
+///
+/// # Errors
+///
+/// Out of memory.
+pub fn headers_of(alloc: Global, response: &Response) -> Result<Vec<Header<'static>>, AllocError>
+    ensures { IfOk result (λ headers. pairs headers.items ≡ headers_of response.now) }
+{
     let mut headers = Vec::new(alloc);
     headers.push(header("content-type", response.content.media_type()))?;
     headers.push(header("cache-control", response.keeps.control()))?;

@@ -19,13 +19,11 @@
 //! - [`status_frame`], [`identify_frame`], [`outcome_frame`], [`question_frame`], [`submit_frame`]:
 //!   the octets of the frame by which the node is asked.
 //! - [`Response`]: `new`, `json`, `object`: a status, and a body of text or of JSON
-//!   (`specs/Response`).
+//!   (`specs/Response`). [`phrase_of`], [`headers_of`]: the phrase of its status, and its header
+//!   fields (`specs/Heading`).
+//! - [`fault_text`]: why pairs are refused, in words (`specs/Words`).
 //!
 //! Out of memory is the only error.
-//!
-//! # Not promised
-//!
-//! The header fields and the phrase of a response, and the words of refusals: tests show them.
 #![tactic(auto)]
 
 mod asking;

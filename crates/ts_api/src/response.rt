@@ -1,7 +1,8 @@
 //! Responses.
 
-ghost use Rattle.std.specs.Prelude.{◌++◌, ◌∷◌, [], IfOk, map};
+ghost use Rattle.std.specs.Prelude.{◌≡◌, ◌++◌, ◌∷◌, [], IfOk, map};
 ghost use Rattle.ts_json.specs.Members.{named_value, object_of};
+ghost use Rattle.ts_api.specs.Heading.{allow_of, control_of, media_type};
 ghost use Rattle.ts_api.specs.Response.{IsJson, IsLine, IsPlain};
 ghost use Rattle.ts_api.specs.declared.response.Content.TheVariants.{Json};
 
@@ -45,7 +46,9 @@ pub struct Response {
 
 impl Content {
     /// The media type.
-    pub fn media_type(self) -> &'static str {
+    pub fn media_type(self) -> &'static str
+        ensures { result.now ≡ media_type self }
+    {
         match self {
             Content::Text => "text/plain; charset=utf-8",
             Content::Json => "application/json",
@@ -59,7 +62,9 @@ impl Content {
 
 impl Keeps {
     /// The value of Cache-Control (RFC 9111 5.2.2, RFC 8246).
-    pub fn control(self) -> &'static str {
+    pub fn control(self) -> &'static str
+        ensures { result.now ≡ control_of self }
+    {
         match self {
             Keeps::Never => "no-store",
             Keeps::Hour => "max-age=3600",
@@ -70,7 +75,9 @@ impl Keeps {
 
 impl Methods {
     /// The value of Allow (RFC 9110 10.2.1).
-    pub fn allow(self) -> &'static str {
+    pub fn allow(self) -> &'static str
+        ensures { result.now ≡ allow_of self }
+    {
         match self {
             Methods::Get => "GET, HEAD",
             Methods::Post => "POST",

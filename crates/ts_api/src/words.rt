@@ -1,10 +1,15 @@
 //! Why a request says no question, in plain words.
 
+ghost use Rattle.std.specs.Prelude.{◌≡◌, IfOk, string_bytes};
+ghost use Rattle.ts_api.specs.Words.{fault_words, wanted_of};
+
 use std::alloc::{AllocError, Global};
 use ts_form::{Field, FormFault};
 
 /// What a value of a field is.
-fn wanted_of(field: Field) -> &'static str {
+fn wanted_of(field: Field) -> &'static str
+    ensures { result.now ≡ wanted_of field }
+{
     match field {
         Field::Chain => "certificates in PEM, or one as base64 of its DER",
         Field::At => "a moment, as 20260131120000Z",
@@ -17,7 +22,13 @@ fn wanted_of(field: Field) -> &'static str {
 }
 
 /// Why pairs say no question.
-pub fn fault_text(alloc: Global, fault: FormFault) -> Result<String, AllocError> {
+///
+/// # Errors
+///
+/// Out of memory.
+pub fn fault_text(alloc: Global, fault: FormFault) -> Result<String, AllocError>
+    ensures { IfOk result (λ text. string_bytes text ≡ fault_words fault) }
+{
     match fault {
         FormFault::Memory => String::from_str(alloc, "memory was refused"),
         FormFault::Json => String::from_str(

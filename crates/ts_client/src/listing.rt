@@ -9,12 +9,12 @@ use std::random::RandomSource;
 use std::rt::Files;
 use ts_cli::Reach;
 use ts_exchange::{Ending, PageWalk, Rows};
+use ts_line::Line;
 use ts_listing::missing;
 use ts_offline::{TaskFault, put, say};
 use ts_question::Reply;
 use ts_render::{row_fields, row_text, write_row};
 use ts_serve::Peer;
-use ts_show::Line;
 use ts_wire::FrameFault;
 
 /// The most pages that are asked for: a log of 1,000,000 commands has 15,625.

@@ -13,13 +13,13 @@ use std::time::Duration;
 use ts_cli::Reach;
 use ts_command::Command;
 use ts_exchange::{
-    Ending, Saying, answer_in, answer_to_question, ending_by, request_octets, submit_saying,
+    Ending, Saying, answer_in, answer_to_question, ask_line, ending_by, request_octets,
+    submit_saying,
 };
-use ts_explain::explanation;
 use ts_offline::{TaskFault, key_in, put, read_file, say};
 use ts_question::{Answer, Question};
+use ts_render::explanation;
 use ts_serve::{Peer, TcpPeer, carry};
-use ts_show::reply_text;
 use ts_wire::{Frame, FrameFault};
 
 /// Sends a request to a peer, and returns the frame that it is answered with.
@@ -61,13 +61,6 @@ pub fn submit<P: Peer>(alloc: Global, peer: &mut P, command: Command) -> Result<
     Ok(said?)
 }
 
-/// The line that says what a question is answered.
-fn ask_line(alloc: Global, answer: &Answer) -> Result<String, TaskFault> {
-    let k = answer.k();
-    let reply = reply_text(alloc, answer.reply())?;
-    Ok(format!(in alloc; "ask {k} {reply}\n")?)
-}
-
 /// Asks a peer a question, and gives the answer.
 pub(crate) fn answer_from<P: Peer>(
     alloc: Global,
@@ -91,7 +84,7 @@ pub fn ask<P: Peer>(alloc: Global, peer: &mut P, question: Question) -> Result<S
     ensures { P.is_ready peer.new }
 {
     let answer = answer_from(alloc, peer, question)?;
-    ask_line(alloc, &answer)
+    Ok(ask_line(alloc, &answer)?)
 }
 
 /// Says on standard error what kept a server from answering, where one did not. What it is given.

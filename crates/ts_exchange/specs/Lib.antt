@@ -3,3 +3,4 @@ pub mod Answers
 pub mod Lines
 pub mod Walk
 pub mod Steps
+pub mod Held

@@ -5,6 +5,8 @@ use Rattle.std.specs.Fmt.{decimal}
 use Rattle.std.specs.Str.{is_utf8}
 use Rattle.ts_command.specs.Outcomes.{outcome_words}
 use Rattle.ts_command.specs.declared.outcome.Outcome.{Outcome}
+use Rattle.ts_question.specs.Reply.{NumberedReply}
+use Rattle.ts_show.specs.Words.{reply_words}
 use Rattle.ts_wire.specs.declared.fault.FrameFault.TheVariants.{Kind}
 use Rattle.ts_wire.specs.declared.frame.Frame.{Frame}
 use Rattle.ts_wire.specs.declared.frame.Frame.TheVariants.{Done, Identity, Prefix, Reported}
@@ -46,6 +48,13 @@ submit_ending frame = None
 abbrev pub IsUnsaid : Option (List ℕ) → ExchangeFault → Type 0
 IsUnsaid line Memory = Unit {0}
 IsUnsaid line e = (e ≡ Wrong Kind) × (line ≡ None)
+
+-- ---- a question
+
+-- how many commands the store took, and the reply
+abbrev pub ask_words : NumberedReply → List ℕ
+ask_words answer = codes "ask "
+    ++ (decimal answer.k ++ (codes " " ++ (reply_words answer.reply ++ codes "\n")))
 
 -- ---- what keeps a node in order
 

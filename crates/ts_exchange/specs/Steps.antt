@@ -5,7 +5,7 @@ use Rattle.std.specs.Str.{bytes_eq}
 use Rattle.ts_command.specs.declared.command.Command.{Command}
 use Rattle.ts_command.specs.declared.command.Command.TheVariants.{AddAnchor, LoadCrl, DropCrl}
 use Rattle.ts_command.specs.declared.command.Command.TheVariants.{WithdrawAnchor}
-use Rattle.ts_show.specs.Lines.{hex, printable}
+use Rattle.ts_line.specs.Lines.{hex, printable}
 use Rattle.ts_sync.specs.declared.planning.PlanStep.{PlanStep}
 use Rattle.ts_sync.specs.declared.planning.StepKind.{StepKind}
 use Rattle.ts_sync.specs.declared.planning.StepKind.TheVariants.{Add, Load, Drop, Withdraw}

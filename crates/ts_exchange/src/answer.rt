@@ -1,13 +1,15 @@
 //! Requests are written, and answers read.
 
-ghost use Rattle.std.specs.Prelude.{◌≡◌, None, IfOk, IfErr, MatchResult};
+ghost use Rattle.std.specs.Prelude.{◌≡◌, None, IfOk, IfErr, MatchResult, string_bytes};
 ghost use Rattle.ts_wire.specs.Frames.{FrameFits, frame_encoding};
 ghost use Rattle.ts_wire.specs.declared.frame.Frame.TheVariants.{Answer as AnswerFrame};
 ghost use Rattle.ts_exchange.specs.Answers.{IsNoAnswer, IsOther, IsTooLong, fault_in};
+ghost use Rattle.ts_exchange.specs.Lines.{ask_words};
 
 use crate::fault::ExchangeFault;
-use std::alloc::Global;
+use std::alloc::{AllocError, Global};
 use ts_question::Answer;
+use ts_show::reply_text;
 use ts_wire::{Feed, FeedError, Frame, FrameFault, WriteError, write_frame};
 
 /// The octets of a request.
@@ -82,4 +84,17 @@ pub fn answer_to_question(frame: Frame) -> Result<Answer, ExchangeFault>
             Err(ExchangeFault::Frame(FrameFault::Kind))
         }
     }
+}
+
+/// The line that says what a question is answered.
+///
+/// # Errors
+///
+/// Out of memory.
+pub fn ask_line(alloc: Global, answer: &Answer) -> Result<String, AllocError>
+    ensures { IfOk result (λ line. string_bytes line ≡ ask_words answer.now) }
+{
+    let k = answer.k();
+    let reply = reply_text(alloc, answer.reply())?;
+    format!(in alloc; "ask {k} {reply}\n")
 }

@@ -12,7 +12,7 @@
 //!   not (`IsNoAnswer` in `specs/Answers`).
 //! - [`answer_to_question`]: the answer that a frame carries, and nothing of another frame.
 //! - [`submit_saying`], [`upkeep_line`]: exactly this line (`specs/Lines`); refused exactly where
-//!   the frame is no answer to what was asked.
+//!   the frame is no answer to what was asked. [`ask_line`]: the line of an answer to a question.
 //! - [`Upkeep::request`]: the request for it.
 //! - [`ending_of`], [`ending_by`]: how a client's task ends, by what a node answers
 //!   (`specs/Endings`): the program ends with 1 for a command that is refused, and where a valid
@@ -24,10 +24,8 @@
 //!   [`steps_from`]: the plan of `ts_sync` for these ids. [`value_of`]: the value that a step
 //!   brings, and none for a step that brings nothing. [`command_of`]: the command that does a step,
 //!   with exactly these octets. [`step_line`]: its line.
-//!
-//! # Not promised
-//!
-//! Only tested: what rows a store is held to have ([`held_in`]).
+//! - [`held_in`]: the ids of the anchors and of the CRLs that a store's rows say it holds, in their
+//!   order (`specs/Held`).
 #![tactic(auto)]
 
 mod answer;
@@ -40,7 +38,7 @@ mod upkeep;
 mod value;
 mod walk;
 
-pub use answer::{answer_in, answer_to_question, request_octets};
+pub use answer::{answer_in, answer_to_question, ask_line, request_octets};
 pub use ending::{Ending, ending_by, ending_of};
 pub use fault::ExchangeFault;
 pub use saying::{Saying, submit_saying};

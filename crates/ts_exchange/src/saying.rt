@@ -1,4 +1,4 @@
-//! What is said of a command that was submitted.
+//! What a client says of a command that was submitted.
 
 ghost use Rattle.std.specs.Prelude.{◌≡◌, IfOk, IfErr, Some, string_bytes};
 ghost use Rattle.ts_exchange.specs.Lines.{IsUnsaid, settled_words, started_words};

@@ -1,18 +1,19 @@
 //! The steps by which a store comes to hold what files hold.
 
-ghost use Rattle.std.specs.Prelude.{◌≡◌, ◌⊎◌, ◌<◌, [], None, false, map, length, option_map};
-ghost use Rattle.std.specs.Prelude.{unwrap_or, IfOk, IfErr, find};
+ghost use Rattle.std.specs.Prelude.{◌≡◌, ◌⊎◌, ◌<◌, [], None, true, false, map, length};
+ghost use Rattle.std.specs.Prelude.{option_map, unwrap_or, IfOk, IfErr, MatchOption, find};
 ghost use Rattle.std.specs.Option.{option_copied};
 ghost use Rattle.std.specs.Str.{bytes_eq};
 ghost use Rattle.ts_sync.specs.Plan.{aim, kept_in, plan};
+ghost use Rattle.ts_exchange.specs.Held.{HasOther, HoldsAll, HoldsMore, IsNeither, nothing};
 ghost use Rattle.ts_exchange.specs.Steps.{IsUnmade, brought_by, command_for, line_of, word_of};
 
 use crate::value::Value;
 use std::alloc::{AllocError, Global};
 use ts_command::Command;
+use ts_line::Line;
 use ts_octets::Octets;
 use ts_question::{AnchorRow, CrlRow};
-use ts_show::Line;
 use ts_sync::{Holding, PlanStep, StepKind, plan_named};
 
 /// What files hold.
@@ -43,25 +44,39 @@ impl From<AllocError> for StepFault {
     }
 }
 
-/// What a store holds, by its rows. `None` where octets are no row of a store.
+/// Holds what a row says that a store holds. Whether it is a row of a store.
+fn hold(held: &mut Holding, octets: &[u8]) -> Result<bool, AllocError>
+    ensures { IfOk result (λ holds.
+        ((holds ≡ true) × HoldsMore octets.now (kept_in held.old) (kept_in held.new))
+        ⊎ ((holds ≡ false) × IsNeither octets.now)) }
+{
+    if let Some(row) = AnchorRow::read(octets)? {
+        held.anchors.push(row.id)?;
+        return Ok(true);
+    }
+    let Some(row) = CrlRow::read(octets)? else {
+        return Ok(false);
+    };
+    held.crls.push(row.id)?;
+    Ok(true)
+}
+
+/// What a store holds, by its rows. `None` exactly where some octets are no row of a store.
 ///
 /// # Errors
 ///
 /// Out of memory.
-pub fn held_in(alloc: Global, rows: &[Vec<u8>]) -> Result<Option<Holding>, AllocError> {
+pub fn held_in(alloc: Global, rows: &[Vec<u8>]) -> Result<Option<Holding>, AllocError>
+    ensures { IfOk result (λ held. MatchOption held (HasOther (map (λ row. row.items) rows.now))
+        (λ held. HoldsAll (map (λ row. row.items) rows.now) nothing (kept_in held))) }
+{
     let mut held = Holding {
         anchors: Vec::new(alloc),
         crls: Vec::new(alloc),
     };
     for octets in rows {
-        let octets = octets.as_slice();
-        if let Some(row) = AnchorRow::read(octets)? {
-            held.anchors.push(row.id)?;
-            continue;
-        }
-        match CrlRow::read(octets)? {
-            Some(row) => held.crls.push(row.id)?,
-            None => return Ok(None),
+        if !hold(&mut held, octets)? {
+            return Ok(None);
         }
     }
     Ok(Some(held))

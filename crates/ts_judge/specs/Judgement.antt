@@ -5,7 +5,7 @@ use Rattle.ts_host.specs.declared.host.Host.{Host}
 use Rattle.ts_path.specs.Asked.{TrustAnchor, ValidationInputs}
 use Rattle.ts_report.specs.Fields.{IsJson, is_valid}
 use Rattle.ts_report.specs.Text.{IsText}
-use Rattle.ts_show.specs.Lines.{with_line_feed}
+use Rattle.ts_line.specs.Lines.{with_line_feed}
 use Rattle.ts_verify.specs.Report.{IsReport, search_with}
 use Rattle.ts_verify.specs.declared.report.Report.{Report}
 use Rattle.ts_judge.specs.declared.judging.Judgement.{Judgement}

@@ -4,7 +4,8 @@ ghost use Rattle.std.specs.Prelude.{IfOk};
 ghost use Rattle.ts_offline.specs.Others.{IsOther};
 
 use std::alloc::{AllocError, Global};
-use ts_show::{Kind, Line, kind_of};
+use ts_line::Line;
+use ts_show::{Kind, kind_of};
 
 /// What octets hold, where that is known and not what is wanted.
 pub fn other_kind(alloc: Global, wanted: Kind, octets: &[u8]) -> Result<Option<Kind>, AllocError>

@@ -3,9 +3,9 @@
 use crate::frames::{answer_in, octets_of};
 use crate::senders::{Sender, Senders};
 use std::alloc::{AllocError, Global};
+use ts_line::Line;
 use ts_question::{Answer, CommandRow, Question, Reply, Terms};
 use ts_render::{row_fields, write_row};
-use ts_show::Line;
 use ts_wire::Frame;
 
 /// How many commands are told of one by one. Where more are new, their number is told alone.

@@ -5,3 +5,4 @@ pub mod RowMembers
 pub mod Chain
 pub mod Replies
 pub mod Fields
+pub mod Line

@@ -4,7 +4,7 @@ use Rattle.std.specs.List.{list_all}
 use Rattle.hex.specs.Hex.{encode_lower}
 use Rattle.ts_der.specs.Dotted.{dotted_text}
 use Rattle.ts_der.specs.ObjectIdentifier.{arcs}
-use Rattle.ts_show.specs.Lines.{is_printable}
+use Rattle.ts_line.specs.Lines.{is_printable}
 use Rattle.ts_time.specs.Text.{IsGeneral}
 
 abbrev pub IsPrintable : List ℕ → Type 0

@@ -11,13 +11,13 @@ ghost use Rattle.ts_render.specs.Fields.{AreFields, AreWords, anchor_in, places_
 ghost use Rattle.ts_render.specs.Fields.{policies_in};
 ghost use Rattle.ts_render.specs.Texts.{IsPrintable, dotted_form};
 
+use crate::explaining::explanation;
 use crate::replies::{name_of, position_in, prefix_in, valid_in};
 use crate::rows::all_dotted;
 use crate::text::{moment_text, text_of};
 use base64::engine::general_purpose::STANDARD;
 use std::alloc::{AllocError, Global};
 use ts_der::Oid;
-use ts_explain::explanation;
 use ts_json::AnswerFields;
 use ts_question::{Answer, Question, Reply};
 use ts_reason::Reason;

@@ -18,16 +18,20 @@
 //!   object; tests say of which words.
 //! - [`chain_fields`]: the certificates of a question, of which the one is marked that a reply
 //!   names (`specs/Chain`).
+//! - [`explanation`]: `IsLine` (`specs/Line`): what a reply means in plain words, one line of
+//!   printable characters of ASCII that is ended by a line feed.
 //! - [`moment_text`]: a moment.
 //!
 //! Out of memory is the only error.
 //!
 //! # Not promised
 //!
-//! What the explanation says, as in `ts_explain`, and names, but that they are printable.
+//! What the explanation says, of which some lines are tested, and names, but that they are
+//! printable.
 #![tactic(auto)]
 
 mod chain;
+mod explaining;
 mod fields;
 mod lines;
 mod members;
@@ -37,6 +41,7 @@ mod rows;
 mod text;
 
 pub use chain::{CertificateFields, chain_fields};
+pub use explaining::explanation;
 pub use fields::answer_fields;
 pub use lines::{row_text, write_row};
 pub use members::row_members;

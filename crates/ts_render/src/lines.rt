@@ -4,7 +4,7 @@ use crate::members::row_members;
 use crate::rows::{AnchorFields, CommandFields, CrlFields, PurposeFields, RowFields};
 use std::alloc::{AllocError, Global};
 use ts_json::members_text;
-use ts_show::Line;
+use ts_line::Line;
 
 /// Writes a text, or a question mark where there is none.
 fn write_known(line: &mut Line, text: Option<&str>) -> Result<(), AllocError> {

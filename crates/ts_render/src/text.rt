@@ -7,8 +7,8 @@ ghost use Rattle.ts_render.specs.Texts.{IsPrintable, IsTold, TellsMoment, hex_or
 use std::alloc::{AllocError, Global};
 use ts_der::Reader;
 use ts_der::tag::SEQUENCE;
+use ts_line::{Line, write_name, write_scope};
 use ts_name::Name;
-use ts_show::{Line, write_name, write_scope};
 use ts_time::{Moment, print_general};
 
 /// As many octets of a name, or of a scope, has a row at most.

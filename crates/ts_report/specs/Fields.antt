@@ -17,7 +17,7 @@ use Rattle.ts_reason.specs.declared.reason.Reason.TheVariants.{PathLength, KeyUs
 use Rattle.ts_reason.specs.declared.reason.Reason.TheVariants.{CriticalExtension, FinalPolicy}
 use Rattle.ts_reason.specs.declared.reason.Reason.TheVariants.{Purpose}
 use Rattle.ts_report.specs.Text.{oid_text}
-use Rattle.ts_show.specs.Lines.{is_printable}
+use Rattle.ts_line.specs.Lines.{is_printable}
 use Rattle.ts_verify.specs.declared.report.Finding.{Finding}
 use Rattle.ts_verify.specs.declared.report.Finding.TheVariants.{Valid, Invalid, OtherHost}
 

@@ -6,7 +6,7 @@ use Rattle.ts_der.specs.Dotted.{dotted_text}
 use Rattle.ts_der.specs.ObjectIdentifier.{arcs}
 use Rattle.ts_reason.specs.Printed.{reason_text}
 use Rattle.ts_reason.specs.View.{reason_in}
-use Rattle.ts_show.specs.Lines.{with_line_feed, is_printable, printable}
+use Rattle.ts_line.specs.Lines.{with_line_feed, is_printable, printable}
 use Rattle.ts_verify.specs.declared.report.Finding.{Finding}
 use Rattle.ts_verify.specs.declared.report.Finding.TheVariants.{Valid, Invalid, OtherHost}
 

@@ -13,9 +13,9 @@ use std::alloc::{AllocError, Global};
 use ts_cert::Cert;
 use ts_der::OidRef;
 use ts_json::{VerdictFields, object_text};
+use ts_line::{Line, write_name};
 use ts_name::Name;
 use ts_reason::Reason;
-use ts_show::{Line, write_name};
 use ts_verify::{Finding, Report};
 
 /// The text of a line.

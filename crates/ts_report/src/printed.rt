@@ -6,15 +6,15 @@ ghost use Rattle.std.specs.Fmt.{decimal};
 ghost use Rattle.ts_reason.specs.Printed.{reason_text};
 ghost use Rattle.ts_reason.specs.View.{reason_in};
 ghost use Rattle.std.specs.List.{list_all};
-ghost use Rattle.ts_show.specs.Lines.{with_line_feed, is_printable, printable};
+ghost use Rattle.ts_line.specs.Lines.{with_line_feed, is_printable, printable};
 ghost use Rattle.ts_report.specs.Text.{IsText, oid_text, policies_text, words_of};
 
 use crate::words::{write_no_anchor, write_reason};
 use std::alloc::{AllocError, Global};
 use ts_cert::Cert;
 use ts_der::OidRef;
+use ts_line::{Line, write_name};
 use ts_reason::Reason;
-use ts_show::{Line, write_name};
 use ts_verify::{Finding, Report};
 
 /// An object identifier in dotted form.

@@ -4,8 +4,8 @@ use std::alloc::{AllocError, Global};
 use ts_cert::Cert;
 use ts_check::algorithm_named;
 use ts_der::OidRef;
+use ts_line::{Line, write_name, write_oid};
 use ts_reason::Reason;
-use ts_show::{Line, write_name, write_oid};
 use ts_time::{Moment, print_general};
 
 /// Writes a moment as `2026-01-31 12:00:00 UTC`; one of no year from 0 to 9999 as its seconds.

@@ -11,7 +11,7 @@ use Rattle.ts_crl.specs.Table.{crl_fault}
 use Rattle.ts_show.specs.declared.kind.Kind.{Kind}
 use Rattle.ts_show.specs.declared.kind.Kind.TheVariants as kind
 use Rattle.ts_show.specs.Kind.{IsKind, word_of}
-use Rattle.ts_show.specs.Lines.{is_printable, hex, text_of}
+use Rattle.ts_line.specs.Lines.{is_printable, hex, text_of}
 
 -- the first line is the word for the kind
 abbrev pub HeadedBy : Kind → List (List ℕ) → Type 0

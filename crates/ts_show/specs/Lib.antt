@@ -1,3 +1,3 @@
-pub mod Lines
 pub mod Kind
 pub mod Begins
+pub mod Words

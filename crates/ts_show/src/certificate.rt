@@ -1,9 +1,8 @@
 //! The lines of a certificate.
 
+use crate::entry::{moment_line, name_line, oid_line};
 use crate::extension::extension_lines;
 use crate::lines::Lines;
-use crate::name::{name_line, oid_line};
-use crate::time::moment_line;
 use std::alloc::AllocError;
 use ts_cert::{Cert, Version};
 use ts_ext::Holder;

@@ -1,7 +1,7 @@
 //! The lines of a command.
 
+use crate::entry::{name_line, oid_line};
 use crate::lines::Lines;
-use crate::name::{name_line, oid_line};
 use std::alloc::AllocError;
 use ts_cert::Cert;
 use ts_command::{Command, Purposes};

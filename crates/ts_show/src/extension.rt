@@ -1,11 +1,11 @@
 //! The lines of extensions.
 
 use crate::lines::Lines;
-use crate::name::write_oid;
 use crate::value::value_lines;
 use std::alloc::AllocError;
 use ts_ext::{Ext, Holder, Known};
 use ts_extensions::{Extension, Extensions};
+use ts_line::write_oid;
 
 /// The name of an extension (RFC 5280 4.2.1, 5.2, 5.3).
 fn name_of(known: Known) -> &'static str {

@@ -8,10 +8,10 @@ ghost use Rattle.ts_crl.specs.Fault.{fault_in, fault_text};
 ghost use Rattle.ts_crl.specs.Table.{crl_fault};
 ghost use Rattle.ts_show.specs.Begins.{certificate_fault_line, list_fault_line};
 
-use crate::line::Line;
 use std::alloc::{AllocError, Global};
 use ts_cert::Cert;
 use ts_crl::{Crl, CrlFault};
+use ts_line::Line;
 use ts_shape::CertFault;
 
 /// Writes the name of the rule that is broken, and its place.

@@ -12,12 +12,8 @@
 //!   digest that names it; of what is neither and begins with the tag of a SEQUENCE they are the
 //!   first broken rule of each, with its place.
 //! - [`Kind::word`]: the word for a kind.
-//! - [`Line`]: a line of printable characters alone, whatever is written to it (`printable`):
-//!   octets as they are shown, octets in hexadecimal digits, numbers in decimal (their clauses).
-//! - [`write_name`], [`write_oid`], [`write_moment`], [`write_scope`]: a distinguished name, an
-//!   object identifier, a moment and what a CRL covers in such a line.
 //! - [`reply_text`], [`found_text`], [`not_yet_text`], [`fault_name`]: what a node answers, in
-//!   words, as the lab and the command line print it. No clause says which words: tests of both do.
+//!   words, as the lab and the command line print it (`specs/Words`).
 //! - [`laws::one_kind`]: octets hold one kind of thing.
 //!
 //! What the other lines say of a certificate, a list, a command, a question and a record no clause
@@ -35,26 +31,19 @@
 
 mod certificate;
 mod command;
+mod entry;
 mod extension;
 mod fault;
 mod kind;
 pub mod laws;
-mod line;
 mod lines;
 mod list;
-mod name;
 mod question;
 mod record;
 mod reply;
-mod scope;
 mod shown;
-mod time;
 mod value;
 
 pub use kind::{Kind, kind_of};
-pub use line::Line;
-pub use name::{write_name, write_oid};
 pub use reply::{fault_name, found_text, not_yet_text, reply_text};
-pub use scope::write_scope;
 pub use shown::show;
-pub use time::write_moment;

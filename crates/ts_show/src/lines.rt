@@ -2,11 +2,11 @@
 
 ghost use Rattle.std.specs.Prelude.{◌≡◌, ◌++◌, ◌∷◌, [], true, ℕ, List, OnOk, IfOk};
 ghost use Rattle.std.specs.List.{list_all};
-ghost use Rattle.ts_show.specs.Lines.{is_printable, text_of};
+ghost use Rattle.ts_line.specs.Lines.{is_printable, text_of};
 
-use crate::line::Line;
 use std::alloc::{AllocError, Global};
 use std::marker::Model;
+use ts_line::Line;
 
 /// Lines of printable characters of ASCII. Contracts see the octets of each.
 #[derive(Drop)]

@@ -1,12 +1,12 @@
 //! The lines of a CRL.
 
+use crate::entry::{moment_line, name_line, oid_line};
 use crate::extension::extension_lines;
 use crate::lines::Lines;
-use crate::name::{name_line, oid_line};
-use crate::time::{moment_line, write_moment};
 use std::alloc::AllocError;
 use ts_crl::{Crl, Entry};
 use ts_ext::{Holder, ReasonCode};
+use ts_line::write_moment;
 
 /// The name of a reason (RFC 5280 5.3.1).
 fn reason_name(reason: ReasonCode) -> &'static str {

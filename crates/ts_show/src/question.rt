@@ -1,9 +1,8 @@
 //! The lines of a question.
 
 use crate::command::subject_line;
+use crate::entry::{moment_line, oid_line};
 use crate::lines::Lines;
-use crate::name::oid_line;
-use crate::time::moment_line;
 use std::alloc::AllocError;
 use ts_question::{Flags, OctetStrings, Oids, Question, Target, Terms};
 

@@ -1,12 +1,12 @@
 //! The lines of a node's record.
 
 use crate::command::kind_word;
-use crate::line::Line;
 use crate::lines::Lines;
 use std::alloc::AllocError;
 use ts_command::Command;
 use ts_disk::MemDisk;
 use ts_journal::{Look, look_at};
+use ts_line::Line;
 use ts_record::{Record, RecordFault};
 use ts_synod::Fact;
 

@@ -11,7 +11,6 @@ use crate::certificate::certificate_lines;
 use crate::command::command_lines;
 use crate::fault::{certificate_fault_line, list_fault_line};
 use crate::kind::{Kind, kind_of};
-use crate::line::Line;
 use crate::lines::Lines;
 use crate::list::list_lines;
 use crate::question::question_lines;
@@ -21,6 +20,7 @@ use std::alloc::{AllocError, Global};
 use ts_cert::Cert;
 use ts_command::Command;
 use ts_crl::Crl;
+use ts_line::Line;
 use ts_question::Question;
 
 /// The line of the SHA-256 digest by which a trust anchor and a CRL are named.

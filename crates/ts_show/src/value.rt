@@ -1,8 +1,7 @@
 //! The lines of the values of extensions.
 
+use crate::entry::{general_line, oid_line, scope_line};
 use crate::lines::Lines;
-use crate::name::{general_line, oid_line};
-use crate::scope::scope_line;
 use std::alloc::AllocError;
 use ts_ext::{
     BasicConstraints, CertificatePolicies, DistributionPoint, DistributionPoints, Ext,

@@ -1,9 +1,13 @@
 //! Commands over HTTP: one is submitted, or asked for.
 
 ghost use Rattle.std.specs.Prelude.{IfOk, map, option_map};
+ghost use Rattle.ts_json.specs.Members.{object_of};
+ghost use Rattle.ts_api.specs.Response.{IsJson};
 ghost use Rattle.ts_http.specs.Request.{field_in};
-ghost use Rattle.ts_site.specs.inside.Commanding.{BeginsCommand, IsFirst, IsRefusal};
+ghost use Rattle.ts_site.specs.Commanding.{BeginsCommand, IsFirst, IsRefusal};
 ghost use Rattle.ts_api.specs.Request.{bearer_in};
+ghost use Rattle.ts_site.specs.Statuses.{BeginsOutcome, TellsCommand, command_members};
+ghost use Rattle.ts_site.specs.Steps.{Answers};
 
 use crate::next::{Next, Waits, ask};
 use crate::refusing::{error, node_failed};
@@ -79,7 +83,9 @@ pub(crate) fn begin_command(
 }
 
 /// Begins a request for what became of a command.
-pub(crate) fn begin_outcome(alloc: Global, request: &Request) -> Result<Next, AllocError> {
+pub(crate) fn begin_outcome(alloc: Global, request: &Request) -> Result<Next, AllocError>
+    ensures { IfOk result (BeginsOutcome request.now.target.items) }
+{
     let pairs = form_pairs(alloc, query_of(&request.target))?;
     let Some(id) = command_id_of(&pairs) else {
         let words = "id is not the 32 lower-case hexadecimal digits of a command's id";
@@ -96,7 +102,9 @@ fn known(
     id: &[u8; 16],
     position: Option<u32>,
     outcome: Option<Outcome>,
-) -> Result<Response, AllocError> {
+) -> Result<Response, AllocError>
+    ensures { IfOk result (IsJson status (object_of (command_members id.now position outcome))) }
+{
     let outcome = match outcome {
         Some(outcome) => Some(format!(in alloc; "{outcome}")?),
         None => None,
@@ -118,7 +126,9 @@ fn known(
 }
 
 /// Goes on once the node has answered.
-pub(crate) fn end_command(alloc: Global, id: &[u8; 16], frame: &Frame) -> Result<Next, AllocError> {
+pub(crate) fn end_command(alloc: Global, id: &[u8; 16], frame: &Frame) -> Result<Next, AllocError>
+    ensures { IfOk result (Answers (TellsCommand id.now frame.now)) }
+{
     let response = match frame {
         Frame::Started { position, .. } => known(alloc, 202, id, Some(*position), None)?,
         Frame::Settled { position, outcome } => {

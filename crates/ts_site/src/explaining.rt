@@ -1,5 +1,8 @@
 //! The page's form: a verdict, and why a chain is not valid that no search found valid.
 
+ghost use Rattle.std.specs.Prelude.{IfOk};
+ghost use Rattle.ts_site.specs.Requests.{Shows};
+
 use crate::board::Board;
 use crate::listing::rows_question;
 use crate::next::{Next, Waits, ask};
@@ -33,13 +36,17 @@ pub(crate) struct Explaining {
 }
 
 /// Asks the question of a form.
-fn ask_form(alloc: Global, asked: AskedQuestion, pairs: Vec<Pair>) -> Result<Next, AllocError> {
+fn ask_form(alloc: Global, asked: AskedQuestion, pairs: Vec<Pair>) -> Result<Next, AllocError>
+    ensures { IfOk result Shows }
+{
     let frame = question_frame(alloc, &asked.question)?;
     Ok(ask(Waits::Form(asked, pairs), frame))
 }
 
 /// Begins a request of the page's form.
-pub(crate) fn begin_form(alloc: Global, request: &Request, now: i64) -> Result<Next, AllocError> {
+pub(crate) fn begin_form(alloc: Global, request: &Request, now: i64) -> Result<Next, AllocError>
+    ensures { IfOk result Shows }
+{
     let pairs = form_pairs(alloc, &request.body)?;
     match question_from(alloc, &pairs, now)? {
         Ok(asked) => ask_form(alloc, asked, pairs),
@@ -77,7 +84,9 @@ fn last_of(asked: &AskedQuestion) -> Option<&[u8]> {
 }
 
 /// Asks for rows of the store as it was when the search found nothing.
-fn ask_rows(alloc: Global, explaining: Explaining) -> Result<Next, AllocError> {
+fn ask_rows(alloc: Global, explaining: Explaining) -> Result<Next, AllocError>
+    ensures { IfOk result Shows }
+{
     let question = rows_question(alloc, false, Some(explaining.answer.k()), explaining.from)?;
     let frame = question_frame(alloc, &question)?;
     Ok(ask(Waits::Anchors(explaining), frame))
@@ -89,7 +98,9 @@ fn take_answer(
     asked: AskedQuestion,
     pairs: Vec<Pair>,
     answer: &Answer,
-) -> Result<Next, AllocError> {
+) -> Result<Next, AllocError>
+    ensures { IfOk result Shows }
+{
     if matches!(answer.reply(), Reply::NoPath) && last_of(&asked).is_some() {
         let Ok(kept) = Answer::new(answer.k(), Reply::NoPath) else {
             return Err(AllocError);
@@ -114,7 +125,9 @@ pub(crate) fn end_form(
     pairs: Vec<Pair>,
     frame: &Frame,
     board: &mut Board,
-) -> Result<Next, AllocError> {
+) -> Result<Next, AllocError>
+    ensures { IfOk result Shows }
+{
     match frame {
         Frame::Answer { answer } => {
             board.judged(answer.reply());
@@ -152,7 +165,9 @@ fn ask_explained(
     alloc: Global,
     explaining: Explaining,
     anchor: [u8; 32],
-) -> Result<Next, AllocError> {
+) -> Result<Next, AllocError>
+    ensures { IfOk result Shows }
+{
     let now = explaining.asked.question.terms().moment;
     let mut wanted = match wanted_in(alloc, &explaining.pairs) {
         Ok(wanted) => wanted,
@@ -171,13 +186,17 @@ fn ask_form_explained(
     alloc: Global,
     asked: AskedQuestion,
     pairs: Vec<Pair>,
-) -> Result<Next, AllocError> {
+) -> Result<Next, AllocError>
+    ensures { IfOk result Shows }
+{
     let frame = question_frame(alloc, &asked.question)?;
     Ok(ask(Waits::Explained(asked, pairs), frame))
 }
 
 /// The page that says that a search found nothing.
-fn not_found(alloc: Global, explaining: &Explaining) -> Result<Next, AllocError> {
+fn not_found(alloc: Global, explaining: &Explaining) -> Result<Next, AllocError>
+    ensures { IfOk result Shows }
+{
     let note =
         "No anchor of the store is named, octet for octet, as the last certificate's issuer is.";
     Ok(Next::Tell(page(
@@ -195,7 +214,9 @@ fn take_rows(
     explaining: Explaining,
     total: u32,
     rows: &[Vec<u8>],
-) -> Result<Next, AllocError> {
+) -> Result<Next, AllocError>
+    ensures { IfOk result Shows }
+{
     if let Some(anchor) = anchor_in(&explaining, rows)? {
         return ask_explained(alloc, explaining, anchor);
     }
@@ -213,7 +234,9 @@ pub(crate) fn go_on_anchors(
     alloc: Global,
     explaining: Explaining,
     frame: &Frame,
-) -> Result<Next, AllocError> {
+) -> Result<Next, AllocError>
+    ensures { IfOk result Shows }
+{
     let Frame::Answer { answer } = frame else {
         return not_found(alloc, &explaining);
     };
@@ -229,7 +252,9 @@ pub(crate) fn end_explained(
     asked: &AskedQuestion,
     pairs: &[Pair],
     frame: &Frame,
-) -> Result<Next, AllocError> {
+) -> Result<Next, AllocError>
+    ensures { IfOk result Shows }
+{
     match frame {
         Frame::Answer { answer } => Ok(Next::Tell(page(alloc, asked, answer, EXPLAINED, pairs)?)),
         _ => Ok(Next::Tell(problem(alloc, 503, "the node failed", pairs)?)),

@@ -1,6 +1,15 @@
 //! One connection of HTTP before a node, as a value.
 
-ghost use Rattle.std.specs.Prelude.{◌≡◌, ◌≤◌, length};
+ghost use Rattle.std.specs.Prelude.{◌≡◌, ◌≤◌, ◌⊎◌, List, None, IfOk, OnOk, length, option_map};
+ghost use Rattle.std.specs.Prelude.{take, true, false};
+ghost use Rattle.ts_http.specs.Moves.{HasCome, HasLeft, is_ended};
+ghost use Rattle.ts_http.specs.Times.{is_late_in};
+ghost use Rattle.ts_site.specs.Account.{IsBegun};
+ghost use Rattle.ts_api.specs.Response.{IsLine};
+ghost use Rattle.ts_api.specs.declared.response.Response.{Response};
+ghost use Rattle.ts_site.specs.Faces.{Follows, HasBegun, IsGiven, Responds, State};
+ghost use Rattle.ts_site.specs.Faces.{Takes, state_of, wrong_words};
+ghost use Rattle.ts_site.specs.declared.next.Next.TheVariants.{Tell};
 
 use crate::board::Board;
 use crate::next::{Next, Pending};
@@ -31,7 +40,9 @@ pub struct Face {
 }
 
 /// Why a request is not taken, in words.
-fn words_of(status: u16) -> &'static str {
+fn words_of(status: u16) -> &'static str
+    ensures { result.now ≡ wrong_words status }
+{
     match status {
         413 => "a body has at most 8388608 octets",
         414 => "the path is too long",
@@ -43,7 +54,9 @@ fn words_of(status: u16) -> &'static str {
 
 impl Face {
     /// A connection of which nothing has come, at this moment in milliseconds.
-    pub fn new(alloc: Global, now: u64) -> Face {
+    pub fn new(alloc: Global, now: u64) -> Face
+        ensures { IsBegun (state_of result) }
+    {
         Face {
             alloc,
             connection: Connection::new(alloc, now),
@@ -57,7 +70,10 @@ impl Face {
     /// # Errors
     ///
     /// Memory that is refused.
-    pub fn push(&mut self, piece: &[u8], now: u64) -> Result<(), AllocError> {
+    pub fn push(&mut self, piece: &[u8], now: u64) -> Result<(), AllocError>
+        ensures came { OnOk result (HasCome self.old.connection self.new.connection piece.now) }
+        ensures asks { self.new.asking ≡ self.old.asking }
+    {
         self.connection.push(piece, now)
     }
 
@@ -72,12 +88,17 @@ impl Face {
     }
 
     /// Whether nothing more is answered.
-    pub fn is_ended(&self) -> bool {
+    pub fn is_ended(&self) -> bool
+        ensures { result ≡ is_ended self.now.connection }
+    {
         self.connection.is_ended()
     }
 
     /// The octets of the frame that the node is to be asked by.
-    pub fn asks(&self) -> Option<&[u8]> {
+    pub fn asks(&self) -> Option<&[u8]>
+        ensures { option_map (λ frame. frame.now) result
+            ≡ option_map (λ asking. asking.frame.items) self.now.asking }
+    {
         match &self.asking {
             Some(asking) => Some(asking.frame.as_slice()),
             None => None,
@@ -94,12 +115,17 @@ impl Face {
     /// So many of the octets that wait have left.
     pub fn leave(&mut self, count: usize, now: u64)
         requires { count ≤ length self.old.connection.out }
+        ensures left { HasLeft self.old.connection self.new.connection
+            (take count self.old.connection.out) }
+        ensures asks { self.new.asking ≡ self.old.asking }
     {
         self.connection.leave(count, now);
     }
 
     /// Whether the connection is late, by the times of `ts_http`.
-    pub fn is_late(&self, idle_ms: u64, request_ms: u64, now: u64) -> bool {
+    pub fn is_late(&self, idle_ms: u64, request_ms: u64, now: u64) -> bool
+        ensures { result ≡ is_late_in self.now.connection idle_ms request_ms now }
+    {
         self.connection.is_late(idle_ms, request_ms, now)
     }
 
@@ -115,7 +141,11 @@ impl Face {
         route: Route,
         board: &mut Board,
         now: u64,
-    ) -> Result<(), HttpFault> {
+    ) -> Result<(), HttpFault>
+        ensures responds { OnOk result
+            (Responds self.old.connection self.new.connection response.now) }
+        ensures asks { self.new.asking ≡ self.old.asking }
+    {
         let headers = headers_of(self.alloc, response)?;
         let (status, phrase) = (response.status, phrase_of(response.status));
         self.connection
@@ -125,7 +155,11 @@ impl Face {
     }
 
     /// Writes the response to what is no request that is taken.
-    fn refuse(&mut self, status: u16, board: &mut Board, now: u64) -> Result<(), HttpFault> {
+    fn refuse(&mut self, status: u16, board: &mut Board, now: u64) -> Result<(), HttpFault>
+        ensures { OnOk result ((response : Response)
+            × IsLine status (wrong_words status) response
+            × Follows (Tell response) (state_of self.old) (state_of self.new)) }
+    {
         let response = Response::line(self.alloc, status, words_of(status))?;
         self.respond(&response, Route::None, board, now)
     }
@@ -139,7 +173,9 @@ impl Face {
     }
 
     /// Writes a response, or asks the node.
-    fn follow(&mut self, next: Next, board: &mut Board, now: u64) -> Result<(), HttpFault> {
+    fn follow(&mut self, next: Next, board: &mut Board, now: u64) -> Result<(), HttpFault>
+        ensures { OnOk result (Follows next (state_of self.old) (state_of self.new)) }
+    {
         match next {
             Next::Tell(response) => {
                 let route = self.route();
@@ -158,7 +194,11 @@ impl Face {
         scene: &Scene<'_>,
         board: &mut Board,
         now: u64,
-    ) -> Result<bool, HttpFault> {
+    ) -> Result<bool, HttpFault>
+        ensures { IfOk result (λ there. ((there ≡ true)
+            × HasBegun scene.entry.now (state_of self.old) (state_of self.new))
+            ⊎ ((there ≡ false) × (state_of self.new ≡ state_of self.old))) }
+    {
         let Some(request) = self.connection.request() else {
             return Ok(false);
         };
@@ -168,7 +208,11 @@ impl Face {
     }
 
     /// The next step, while the node is not asked. Whether there may be another.
-    fn step(&mut self, scene: &Scene<'_>, board: &mut Board, now: u64) -> Result<bool, HttpFault> {
+    fn step(&mut self, scene: &Scene<'_>, board: &mut Board, now: u64) -> Result<bool, HttpFault>
+        requires { self.old.asking ≡ None }
+        ensures { OnOk result ((mids : List State)
+            × Takes scene.entry.now (state_of self.old) mids (state_of self.new)) }
+    {
         match self.connection.read(now)? {
             Progress::Goes => Ok(true),
             Progress::Waits => Ok(false),
@@ -188,15 +232,13 @@ impl Face {
     /// # Errors
     ///
     /// Memory that is refused. The connection can't go on then.
-    pub fn take(
-        &mut self,
-        scene: &Scene<'_>,
-        board: &mut Board,
-        now: u64,
-    ) -> Result<(), HttpFault> {
+    pub fn take(&mut self, scene: &Scene<'_>, board: &mut Board, now: u64) -> Result<(), HttpFault>
+        ensures { OnOk result ((mids : List State)
+            × Takes scene.entry.now (state_of self.old) mids (state_of self.new)) }
+    {
         self.paused = false;
         for _step in 0..u32::MAX {
-            if self.asking.is_some() {
+            if let Some(_) = &self.asking {
                 return Ok(());
             }
             if self.connection.octets().len() >= MAX_HELD {
@@ -216,7 +258,9 @@ impl Face {
     /// # Errors
     ///
     /// Memory that is refused; `Write` where nothing was asked. The connection can't go on then.
-    pub fn give(&mut self, frame: &Frame, board: &mut Board, now: u64) -> Result<(), HttpFault> {
+    pub fn give(&mut self, frame: &Frame, board: &mut Board, now: u64) -> Result<(), HttpFault>
+        ensures { OnOk result (IsGiven (state_of self.old) frame.now (state_of self.new)) }
+    {
         let Some(asking) = self.asking.take() else {
             return Err(HttpFault::Write);
         };

@@ -1,5 +1,8 @@
 //! What the store holds, for the metrics.
 
+ghost use Rattle.std.specs.Prelude.{IfOk};
+ghost use Rattle.ts_site.specs.Requests.{Shows};
+
 use crate::board::{Board, Summary};
 use crate::listing::rows_question;
 use crate::metrics::metrics_text;
@@ -20,14 +23,18 @@ pub(crate) struct Gauging {
 }
 
 /// The metrics.
-fn metrics(alloc: Global, board: &Board, prefix: u32) -> Result<Next, AllocError> {
+fn metrics(alloc: Global, board: &Board, prefix: u32) -> Result<Next, AllocError>
+    ensures { IfOk result Shows }
+{
     let text = metrics_text(alloc, board, prefix)?;
     let body = Vec::from_slice(alloc, text.as_bytes())?;
     Ok(Next::Tell(Response::new(200, Content::Metrics, body)))
 }
 
 /// Asks for rows of the store.
-fn ask_rows(alloc: Global, gauging: Gauging) -> Result<Next, AllocError> {
+fn ask_rows(alloc: Global, gauging: Gauging) -> Result<Next, AllocError>
+    ensures { IfOk result Shows }
+{
     let question = rows_question(alloc, false, Some(gauging.summary.k), gauging.from)?;
     let frame = question_frame(alloc, &question)?;
     Ok(ask(Waits::Gauge(gauging), frame))
@@ -35,11 +42,9 @@ fn ask_rows(alloc: Global, gauging: Gauging) -> Result<Next, AllocError> {
 
 /// The node knows so many commands: the metrics are shown, or rows are asked for first, unless it
 /// is known what the store holds.
-pub(crate) fn go_on_metrics(
-    alloc: Global,
-    frame: &Frame,
-    board: &Board,
-) -> Result<Next, AllocError> {
+pub(crate) fn go_on_metrics(alloc: Global, frame: &Frame, board: &Board) -> Result<Next, AllocError>
+    ensures { IfOk result Shows }
+{
     let Frame::Prefix { prefix } = frame else {
         return Ok(Next::Tell(node_failed_line(alloc)?));
     };
@@ -74,7 +79,9 @@ fn take_rows(
     total: u32,
     rows: &[Vec<u8>],
     board: &mut Board,
-) -> Result<Next, AllocError> {
+) -> Result<Next, AllocError>
+    ensures { IfOk result Shows }
+{
     let mut gauging = gauging;
     for octets in rows {
         add_row(&mut gauging.summary, octets)?;
@@ -93,7 +100,9 @@ pub(crate) fn go_on_gauge(
     gauging: Gauging,
     frame: &Frame,
     board: &mut Board,
-) -> Result<Next, AllocError> {
+) -> Result<Next, AllocError>
+    ensures { IfOk result Shows }
+{
     let Frame::Answer { answer } = frame else {
         return Ok(Next::Tell(node_failed_line(alloc)?));
     };

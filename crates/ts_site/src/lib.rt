@@ -11,19 +11,24 @@
 //! ```
 //!
 //! - [`Face`]: a connection. What it reads and writes, and that each request is answered once and
-//!   in order, `ts_http` says; here each request comes to one response, at once or once the node
-//!   has answered.
+//!   in order, `ts_http` says.
+//! - [`Face::take`], [`Face::give`]: `Takes`, `IsGiven` (`specs/Faces`): a request comes to what
+//!   `Begins` says, by its path, its method and what it says, and an answer of the node to what
+//!   `GoesOn` says (`specs/Requests`): of which question the frame is, and which status a response
+//!   has, which body, which header fields, and for how long it may be kept (`specs/Verdicts`,
+//!   `Listings`, `Statuses`). A command is handed on only from whoever shows the secret of a key
+//!   that may submit it, and is refused with 401 or 403 else (`specs/Commanding`).
+//! - [`each_frame_is_for_its_request`], [`each_question_is_the_requests`]: over every list of calls
+//!   of a connection, the node is asked for the request that waits, and, where a verdict is asked,
+//!   the question that this request says.
 //! - [`Scene`]: what a request finds: the time, the node's number and keys. [`Board`]: what a node
 //!   shows: its peers, and counts.
 //!
-//! Which path a request asks for and what it asks is `ts_api`'s. `/v1/commands` hands on a command
-//! only from whoever shows the secret of a key that may submit it, and is refused with 401 or 403
-//! else (`begin_command`: `specs/inside/Commanding`). Out of memory is the only error, and
-//! [`HttpFault`].
+//! Out of memory is the only error, and [`HttpFault`].
 //!
 //! # Not promised
 //!
-//! Which response an answer of the node leads to, and what counts say: test_http, and curl by hand.
+//! What pages show and ask the node for, and what is counted: `test_client`, and `tools/browser`.
 #![tactic(auto)]
 
 mod board;
@@ -31,6 +36,7 @@ mod commanding;
 mod explaining;
 mod face;
 mod gauging;
+mod laws;
 mod listing;
 mod metrics;
 mod next;
@@ -42,6 +48,7 @@ mod verifying;
 
 pub use board::{Board, Label, Metric, Turns};
 pub use face::Face;
+pub use laws::{each_frame_is_for_its_request, each_question_is_the_requests};
 pub use ts_api::Scene;
 pub use ts_http::{HttpFault, MAX_BODY};
 pub use ts_page::PeerLine;

@@ -1,13 +1,21 @@
 //! What the store holds and the commands that it took, for programs.
 
+ghost use Rattle.std.specs.Prelude.{◌≡◌, IfOk, MatchOption, map};
+ghost use Rattle.ts_json.specs.Members.{named_value};
+ghost use Rattle.ts_api.specs.Response.{IsError};
+ghost use Rattle.ts_site.specs.Listings.{AreMembers, BeginsRows, HasNoRow, TellsPage, TellsRows};
+ghost use Rattle.ts_site.specs.Steps.{Answers};
+ghost use Rattle.ts_site.specs.Listings.{head_of, not_yet_words, rows_question};
+
 use crate::next::{Next, RowsAsked, Waits, ask};
 use crate::refusing::{error, fault_error, node_failed};
+use crate::status::count;
 use crate::verifying::time_kept;
 use std::alloc::{AllocError, Global};
 use ts_api::{Content, Response, query_of, question_frame};
 use ts_form::{RowsWanted, form_pairs};
 use ts_http::Request;
-use ts_json::{Member, Plain, page_text};
+use ts_json::{Member, page_text};
 use ts_question::{Answer, Question, Reply, Terms};
 use ts_render::{row_fields, row_members};
 use ts_wire::Frame;
@@ -18,7 +26,9 @@ pub(crate) fn rows_question(
     log: bool,
     k: Option<u32>,
     from: u32,
-) -> Result<Question, AllocError> {
+) -> Result<Question, AllocError>
+    ensures { IfOk result (λ question. question ≡ rows_question log k from) }
+{
     let terms = Terms::plain(alloc, k);
     let question = if log {
         Question::log(terms, from)
@@ -33,7 +43,9 @@ pub(crate) fn rows_question(
 }
 
 /// Begins a request to `/v1/store` or `/v1/log`.
-pub(crate) fn begin_rows(alloc: Global, request: &Request, log: bool) -> Result<Next, AllocError> {
+pub(crate) fn begin_rows(alloc: Global, request: &Request, log: bool) -> Result<Next, AllocError>
+    ensures { IfOk result (BeginsRows log request.now.target.items) }
+{
     let pairs = form_pairs(alloc, query_of(&request.target))?;
     let wanted = match RowsWanted::of(&pairs) {
         Ok(wanted) => wanted,
@@ -55,14 +67,13 @@ fn head_members(
     answer: &Answer,
     from: u32,
     total: u32,
-) -> Result<Vec<Member>, AllocError> {
+) -> Result<Vec<Member>, AllocError>
+    ensures { IfOk result (λ all. map named_value all.items ≡ head_of answer.now.k from total) }
+{
     let mut members = Vec::new(alloc);
-    for (name, number) in [("k", answer.k()), ("from", from), ("total", total)] {
-        members.push(Member {
-            name,
-            value: Plain::Number(Some(u64::from(number))),
-        })?;
-    }
+    members.push(count("k", u64::from(answer.k())))?;
+    members.push(count("from", u64::from(from)))?;
+    members.push(count("total", u64::from(total)))?;
     Ok(members)
 }
 
@@ -71,7 +82,11 @@ fn all_members(
     alloc: Global,
     from: u32,
     rows: &[Vec<u8>],
-) -> Result<Option<Vec<Vec<Member>>>, AllocError> {
+) -> Result<Option<Vec<Vec<Member>>>, AllocError>
+    ensures { IfOk result (λ all. MatchOption all (HasNoRow (map (λ row. row.items) rows.now))
+        (λ all. AreMembers from (map (λ row. row.items) rows.now)
+        (map (λ row. map named_value row.items) all.items))) }
+{
     let mut all = Vec::new(alloc);
     for (place, octets) in rows.iter().enumerate() {
         let Some(row) = row_fields(alloc, octets)? else {
@@ -90,7 +105,10 @@ fn page(
     answer: &Answer,
     total: u32,
     rows: &[Vec<u8>],
-) -> Result<Response, AllocError> {
+) -> Result<Response, AllocError>
+    ensures { IfOk result
+        (TellsPage asked answer.now total (map (λ row. row.items) rows.now)) }
+{
     let Some(all) = all_members(alloc, asked.from, rows)? else {
         return node_failed(alloc);
     };
@@ -102,13 +120,17 @@ fn page(
 }
 
 /// That the node knows fewer commands than it was asked about.
-fn not_yet(alloc: Global, prefix: u32) -> Result<Response, AllocError> {
+fn not_yet(alloc: Global, prefix: u32) -> Result<Response, AllocError>
+    ensures { IfOk result (IsError 404 (not_yet_words prefix)) }
+{
     let words = format!(in alloc; "the node knows {prefix} commands")?;
     error(alloc, 404, words.as_str())
 }
 
 /// Goes on once the node has answered.
-pub(crate) fn end_rows(alloc: Global, asked: RowsAsked, frame: &Frame) -> Result<Next, AllocError> {
+pub(crate) fn end_rows(alloc: Global, asked: RowsAsked, frame: &Frame) -> Result<Next, AllocError>
+    ensures { IfOk result (Answers (TellsRows asked frame.now)) }
+{
     let Frame::Answer { answer } = frame else {
         return Ok(Next::Tell(node_failed(alloc)?));
     };

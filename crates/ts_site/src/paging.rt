@@ -1,5 +1,8 @@
 //! The page of the store.
 
+ghost use Rattle.std.specs.Prelude.{IfOk};
+ghost use Rattle.ts_site.specs.Requests.{Shows};
+
 use crate::board::Board;
 use crate::listing::rows_question;
 use crate::next::{HomeAsked, Next, Waits, ask};
@@ -33,7 +36,9 @@ pub(crate) fn script(alloc: Global) -> Result<Response, AllocError> {
 }
 
 /// Begins a request for the page.
-pub(crate) fn begin_home(alloc: Global, request: &Request) -> Result<Next, AllocError> {
+pub(crate) fn begin_home(alloc: Global, request: &Request) -> Result<Next, AllocError>
+    ensures { IfOk result Shows }
+{
     let pairs = form_pairs(alloc, query_of(&request.target))?;
     match RowsWanted::of(&pairs) {
         Ok(wanted) => {
@@ -51,11 +56,9 @@ pub(crate) fn begin_home(alloc: Global, request: &Request) -> Result<Next, Alloc
 }
 
 /// The node knows so many commands: it is asked for the rows.
-pub(crate) fn go_on_home(
-    alloc: Global,
-    asked: HomeAsked,
-    frame: &Frame,
-) -> Result<Next, AllocError> {
+pub(crate) fn go_on_home(alloc: Global, asked: HomeAsked, frame: &Frame) -> Result<Next, AllocError>
+    ensures { IfOk result Shows }
+{
     let Frame::Prefix { prefix } = frame else {
         return Ok(Next::Tell(problem(alloc, 503, "the node failed", &[])?));
     };
@@ -104,7 +107,9 @@ pub(crate) fn end_home(
     prefix: u32,
     frame: &Frame,
     board: &Board,
-) -> Result<Next, AllocError> {
+) -> Result<Next, AllocError>
+    ensures { IfOk result Shows }
+{
     let Frame::Answer { answer } = frame else {
         return Ok(Next::Tell(problem(alloc, 503, "the node failed", &[])?));
     };

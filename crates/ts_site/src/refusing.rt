@@ -2,6 +2,8 @@
 
 ghost use Rattle.std.specs.Prelude.{IfOk, codes};
 ghost use Rattle.ts_api.specs.Response.{IsError, IsLine};
+ghost use Rattle.ts_api.specs.Words.{fault_words, no_question_words};
+ghost use Rattle.ts_site.specs.Requests.{IsNotAllowed};
 
 use std::alloc::{AllocError, Global};
 use ts_api::{Content, LIMITS, NoQuestion, Response, Route, fault_text};
@@ -22,7 +24,9 @@ pub(crate) fn error(alloc: Global, status: u16, words: &str) -> Result<Response,
 }
 
 /// Why a request asks no question, as JSON.
-pub(crate) fn no_question(alloc: Global, why: NoQuestion) -> Result<Response, AllocError> {
+pub(crate) fn no_question(alloc: Global, why: NoQuestion) -> Result<Response, AllocError>
+    ensures { IfOk result (IsError 400 (no_question_words why)) }
+{
     match why {
         NoQuestion::Limits => error(alloc, 400, LIMITS),
         NoQuestion::Form(fault) => fault_error(alloc, fault),
@@ -30,7 +34,9 @@ pub(crate) fn no_question(alloc: Global, why: NoQuestion) -> Result<Response, Al
 }
 
 /// Why pairs are refused, as JSON.
-pub(crate) fn fault_error(alloc: Global, fault: FormFault) -> Result<Response, AllocError> {
+pub(crate) fn fault_error(alloc: Global, fault: FormFault) -> Result<Response, AllocError>
+    ensures { IfOk result (IsError 400 (fault_words fault)) }
+{
     let words = fault_text(alloc, fault)?;
     error(alloc, 400, words.as_str())
 }
@@ -76,7 +82,9 @@ pub(crate) fn no_question_page(
 }
 
 /// That a path is asked for otherwise.
-pub(crate) fn not_allowed(alloc: Global, route: Route) -> Result<Response, AllocError> {
+pub(crate) fn not_allowed(alloc: Global, route: Route) -> Result<Response, AllocError>
+    ensures { IfOk result (IsNotAllowed route) }
+{
     let mut response = Response::line(alloc, 405, "this path takes another method")?;
     response.allow = Some(route.methods());
     Ok(response)

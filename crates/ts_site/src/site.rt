@@ -1,5 +1,8 @@
 //! What is answered to a request.
 
+ghost use Rattle.std.specs.Prelude.{IfOk};
+ghost use Rattle.ts_site.specs.Requests.{Begins, GoesOn};
+
 use crate::board::Board;
 use crate::commanding::{begin_command, begin_outcome, end_command};
 use crate::explaining::{begin_form, end_explained, end_form, go_on_anchors};
@@ -20,11 +23,9 @@ use ts_wire::Frame;
 /// # Errors
 ///
 /// Out of memory.
-pub(crate) fn begin(
-    alloc: Global,
-    request: &Request,
-    scene: &Scene<'_>,
-) -> Result<Next, AllocError> {
+pub(crate) fn begin(alloc: Global, request: &Request, scene: &Scene<'_>) -> Result<Next, AllocError>
+    ensures { IfOk result (Begins scene.entry.now request.now) }
+{
     let route = route_in(&request.target);
     let method = method_of(&request.method);
     if route != Route::None && !route.methods().takes(method) {
@@ -60,7 +61,9 @@ pub(crate) fn go_on(
     pending: Pending,
     frame: &Frame,
     board: &mut Board,
-) -> Result<Next, AllocError> {
+) -> Result<Next, AllocError>
+    ensures { IfOk result (GoesOn pending.waits frame.now) }
+{
     match pending.waits {
         Waits::Verdict(asked, route) => end_verdict(alloc, &asked, route, frame, board),
         Waits::Rows(asked) => end_rows(alloc, asked, frame),

@@ -1,5 +1,12 @@
 //! What a node says of itself.
 
+ghost use Rattle.std.specs.Prelude.{◌≡◌, IfOk, map};
+ghost use Rattle.ts_json.specs.Answer.{whole};
+ghost use Rattle.ts_json.specs.Members.{named_value};
+ghost use Rattle.ts_site.specs.Statuses.{EndsPrefix, TellsHealth, TellsStatus, status_members};
+ghost use Rattle.ts_site.specs.Steps.{Answers, AsksNode};
+ghost use Rattle.ts_wire.specs.declared.frame.Frame.TheVariants.{Status};
+
 use crate::next::{Next, Waits, ask};
 use crate::refusing::{node_failed, node_failed_line};
 use std::alloc::{AllocError, Global};
@@ -8,13 +15,17 @@ use ts_json::{Member, Plain};
 use ts_wire::Frame;
 
 /// Asks how many commands the node knows.
-pub(crate) fn ask_status(alloc: Global, waits: Waits) -> Result<Next, AllocError> {
+pub(crate) fn ask_status(alloc: Global, waits: Waits) -> Result<Next, AllocError>
+    ensures { IfOk result (AsksNode Status waits) }
+{
     let frame = status_frame(alloc)?;
     Ok(ask(waits, frame))
 }
 
 /// Whether the node has answered.
-pub(crate) fn end_health(alloc: Global, frame: &Frame) -> Result<Next, AllocError> {
+pub(crate) fn end_health(alloc: Global, frame: &Frame) -> Result<Next, AllocError>
+    ensures { IfOk result (Answers (TellsHealth frame.now)) }
+{
     match frame {
         Frame::Prefix { .. } => Ok(Next::Tell(Response::line(alloc, 200, "ok")?)),
         _ => Ok(Next::Tell(node_failed_line(alloc)?)),
@@ -22,13 +33,25 @@ pub(crate) fn end_health(alloc: Global, frame: &Frame) -> Result<Next, AllocErro
 }
 
 /// The node knows so many commands: it is asked which node it is.
-pub(crate) fn end_prefix(alloc: Global, frame: &Frame) -> Result<Next, AllocError> {
+pub(crate) fn end_prefix(alloc: Global, frame: &Frame) -> Result<Next, AllocError>
+    ensures { IfOk result (EndsPrefix frame.now) }
+{
     match frame {
         Frame::Prefix { prefix } => {
             let frame = identify_frame(alloc)?;
             Ok(ask(Waits::Identity(*prefix), frame))
         }
         _ => Ok(Next::Tell(node_failed(alloc)?)),
+    }
+}
+
+/// A number as a member.
+pub(crate) fn count(name: &'static str, number: u64) -> Member
+    ensures { named_value result ≡ (name.now, whole number) }
+{
+    Member {
+        name,
+        value: Plain::Number(Some(number)),
     }
 }
 
@@ -39,25 +62,22 @@ fn members_of(
     node: u8,
     nodes: u8,
     group: u32,
-) -> Result<Vec<Member>, AllocError> {
+) -> Result<Vec<Member>, AllocError>
+    ensures { IfOk result (λ all. map named_value all.items
+        ≡ status_members prefix node nodes group) }
+{
     let mut members = Vec::new(alloc);
-    let rows = [
-        ("prefix", u64::from(prefix)),
-        ("node", u64::from(node)),
-        ("nodes", u64::from(nodes)),
-        ("group", u64::from(group)),
-    ];
-    for (name, number) in rows {
-        members.push(Member {
-            name,
-            value: Plain::Number(Some(number)),
-        })?;
-    }
+    members.push(count("prefix", u64::from(prefix)))?;
+    members.push(count("node", u64::from(node)))?;
+    members.push(count("nodes", u64::from(nodes)))?;
+    members.push(count("group", u64::from(group)))?;
     Ok(members)
 }
 
 /// The node has said which it is.
-pub(crate) fn end_identity(alloc: Global, prefix: u32, frame: &Frame) -> Result<Next, AllocError> {
+pub(crate) fn end_identity(alloc: Global, prefix: u32, frame: &Frame) -> Result<Next, AllocError>
+    ensures { IfOk result (Answers (TellsStatus prefix frame.now)) }
+{
     match frame {
         Frame::Identity { node, nodes, group } => {
             let members = members_of(alloc, prefix, *node, *nodes, *group)?;

@@ -1,5 +1,11 @@
 //! Verdicts over HTTP, for programs.
 
+ghost use Rattle.std.specs.Prelude.{◌≡◌, IfOk, Ok};
+ghost use Rattle.ts_render.specs.Replies.{valid_in};
+ghost use Rattle.ts_site.specs.Steps.{Answers};
+ghost use Rattle.ts_site.specs.Verdicts.{AsksQuestion, BeginsVerdict, IsVerdict, TellsVerdict};
+ghost use Rattle.ts_site.specs.Verdicts.{keeps_of, verdict_status};
+
 use crate::board::Board;
 use crate::next::{Next, Waits, ask};
 use crate::refusing::{no_question, node_failed};
@@ -14,7 +20,9 @@ use ts_render::{answer_fields, is_final, valid_in};
 use ts_wire::Frame;
 
 /// Asks a question.
-fn ask_question(alloc: Global, asked: AskedQuestion, route: Route) -> Result<Next, AllocError> {
+fn ask_question(alloc: Global, asked: AskedQuestion, route: Route) -> Result<Next, AllocError>
+    ensures { IfOk result (AsksQuestion route (Ok asked)) }
+{
     let frame = question_frame(alloc, &asked.question)?;
     Ok(ask(Waits::Verdict(asked, route), frame))
 }
@@ -25,7 +33,10 @@ pub(crate) fn begin_verdict(
     request: &Request,
     route: Route,
     now: i64,
-) -> Result<Next, AllocError> {
+) -> Result<Next, AllocError>
+    ensures { IfOk result
+        (BeginsVerdict route request.now.target.items request.now.body.items now) }
+{
     match question_in(alloc, request, now)? {
         Ok(asked) => ask_question(alloc, asked, route),
         Err(why) => Ok(Next::Tell(no_question(alloc, why)?)),
@@ -33,7 +44,9 @@ pub(crate) fn begin_verdict(
 }
 
 /// The status of an answer.
-fn status_of(route: Route, reply: &Reply) -> u16 {
+fn status_of(route: Route, reply: &Reply) -> u16
+    ensures { result ≡ verdict_status route (valid_in reply.now) }
+{
     if route == Route::Check && valid_in(reply) != Some(true) {
         return 403;
     }
@@ -41,7 +54,9 @@ fn status_of(route: Route, reply: &Reply) -> u16 {
 }
 
 /// For how long an answer may be kept.
-pub(crate) fn time_kept(is_pinned: bool, reply: &Reply) -> Keeps {
+pub(crate) fn time_kept(is_pinned: bool, reply: &Reply) -> Keeps
+    ensures { result ≡ keeps_of is_pinned reply.now }
+{
     if is_pinned && is_final(reply) {
         return Keeps::Always;
     }
@@ -54,7 +69,9 @@ fn verdict(
     asked: &AskedQuestion,
     route: Route,
     answer: &Answer,
-) -> Result<Response, AllocError> {
+) -> Result<Response, AllocError>
+    ensures { IfOk result (IsVerdict asked.now route answer.now) }
+{
     let fields = answer_fields(alloc, &asked.question, answer, &asked.id)?;
     let text = answer_text(alloc, &fields)?;
     let status = status_of(route, answer.reply());
@@ -70,7 +87,9 @@ pub(crate) fn end_verdict(
     route: Route,
     frame: &Frame,
     board: &mut Board,
-) -> Result<Next, AllocError> {
+) -> Result<Next, AllocError>
+    ensures { IfOk result (Answers (TellsVerdict asked.now route frame.now)) }
+{
     match frame {
         Frame::Answer { answer } => {
             board.judged(answer.reply());

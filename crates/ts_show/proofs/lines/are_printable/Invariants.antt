@@ -1,6 +1,6 @@
 use Rattle.std.proofs.Common.{◌≡◌, drop}
 use Rattle.std.specs.List.{list_all}
-use Rattle.ts_show.specs.Lines.{is_printable}
+use Rattle.ts_line.specs.Lines.{is_printable}
 use Rattle.ts_show.proofs.lines.are_printable.Given as goal
 
 abbrev pub invariant-loop-line : goal.invariant-loop-line

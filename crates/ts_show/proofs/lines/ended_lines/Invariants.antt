@@ -1,5 +1,5 @@
 use Rattle.std.proofs.Common.{◌≡◌, take}
-use Rattle.ts_show.specs.Lines.{text_of}
+use Rattle.ts_line.specs.Lines.{text_of}
 use Rattle.ts_show.proofs.lines.ended_lines.Given as goal
 
 abbrev pub invariant-loop-line : goal.invariant-loop-line

@@ -1,0 +1,5 @@
+mod Members
+mod Owed
+mod Asked
+mod Steps
+mod Begun

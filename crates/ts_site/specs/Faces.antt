@@ -1,0 +1,70 @@
+-- What the calls of a connection of HTTP before a node do.
+use Rattle.std.specs.Prelude.{◌≡◌, ◌==◌, ◌⊎◌, ℕ, List, [], ◌∷◌, Option, Some, None, codes}
+use Rattle.std.specs.Prelude.{if◌then◌else◌}
+use Rattle.ts_http.specs.Moves.{HasAnswered, HasRead, request_in, wrong_in}
+use Rattle.ts_http.specs.declared.connection.Connection.{Connection}
+use Rattle.ts_http.specs.declared.request.Request.{Request}
+use Rattle.ts_wire.specs.declared.frame.Frame.{Frame}
+use Rattle.ts_api.specs.Heading.{headers_of, phrase_of}
+use Rattle.ts_api.specs.Response.{IsLine}
+use Rattle.ts_api.specs.declared.response.Response.{Response}
+use Rattle.ts_api.specs.declared.scene.Scene.{Scene}
+use Rattle.ts_site.specs.Requests.{Begins, GoesOn}
+use Rattle.ts_site.specs.declared.face.Asking.{Asking}
+use Rattle.ts_site.specs.declared.face.Face.{Face}
+use Rattle.ts_site.specs.declared.next.Next.{Next}
+use Rattle.ts_site.specs.declared.next.Next.TheVariants.{Tell, Ask}
+
+-- a connection, and what the node is asked for the request that waits on it
+abbrev pub State : Type 0
+State = Connection × Option Asking
+
+abbrev pub state_of : Face → State
+state_of face = (face.connection, face.asking)
+
+-- a response is written behind the others, to what waits for one
+abbrev pub Responds : Connection → Connection → Response → Type 0
+Responds a b r = HasAnswered a b r.status (phrase_of r.status) (headers_of r) r.body.items
+
+-- what comes next: a response is written; or the node is to be asked, and nothing is written
+abbrev pub Follows : Next → State → State → Type 0
+Follows (Tell response) s t = Responds s.0 t.0 response × (t.1 ≡ s.1)
+Follows (Ask pending octets) s t =
+    (t.0 ≡ s.0) × (t.1 ≡ Some (record { pending = pending; frame = octets }))
+
+-- the node has answered by this frame what it was asked
+abbrev pub IsGiven : State → Frame → State → Type 0
+IsGiven s frame t = (asking : Asking) × (s.1 ≡ Some asking)
+    × (next : Next) × GoesOn asking.pending.waits frame next × Follows next (s.0, None) t
+
+-- ---- what a connection takes before the node is asked
+
+-- why a request is not taken
+abbrev pub wrong_words : ℕ → List ℕ
+wrong_words status =
+    if status == 413 then codes "a body has at most 8388608 octets"
+    else (if status == 414 then codes "the path is too long"
+    else (if status == 431 then codes "the header fields are too long"
+    else (if status == 501 then codes "a transfer coding that isn't taken here"
+    else codes "this is no request of HTTP/1.1")))
+
+-- what came is no request that is taken, and is told so
+abbrev pub IsWrong : State → State → Type 0
+IsWrong s t = (status : ℕ) × (wrong_in s.0 ≡ Some status)
+    × (response : Response) × IsLine status (wrong_words status) response
+    × Follows (Tell response) s t
+
+-- the request that waits comes to something
+abbrev pub HasBegun : Scene → State → State → Type 0
+HasBegun scene s t = (request : Request) × (request_in s.0 ≡ Some request)
+    × (next : Next) × Begins scene request next × Follows next s t
+
+-- one step, while the node is not asked: octets that came are read, or what they are is answered
+abbrev pub TakesOne : Scene → State → State → Type 0
+TakesOne scene s t = (s.1 ≡ None)
+    × ((HasRead s.0 t.0 × (t.1 ≡ None)) ⊎ IsWrong s t ⊎ HasBegun scene s t)
+
+-- one step after another; the last one stands first
+abbrev pub Takes : Scene → State → List State → State → Type 0
+Takes scene s [] t = s ≡ t
+Takes scene s (mid ∷ mids) t = Takes scene s mids mid × TakesOne scene mid t
