@@ -5,14 +5,14 @@ use std::fs;
 use std::rt::Files;
 use std::test::Fail;
 use ts_command::Command;
-use ts_offline::{TaskFault, read_file};
+use ts_offline::{RecordLock, TaskFault, read_file};
+use ts_offline::{format_files, migrate_files, open_disks};
 use ts_record::Record;
 use ts_synod::Fact;
-use ts_tasks::{RecordLock, format_files, migrate_files, open_disks};
 
-const FOLDER: &str = "ts_tasks_test";
+const FOLDER: &str = "ts_files_test";
 
-const PATH: &str = "ts_tasks_test/node";
+const PATH: &str = "ts_files_test/node";
 
 /// Appends a fact to the record. Whether it was opened.
 fn append_round<R: Files + Eprint>(rt: &R, alloc: Global) -> Result<bool, TaskFault> {
@@ -54,7 +54,7 @@ fn a_record_lies_in_two_files(rt: HostRuntime) -> Result<(), Fail> {
         format_files(&rt, alloc, PATH, 1, 3, 0),
     );
     assert_eq!(rt; (is_missing, made), (true, (Ok(()), Err(TaskFault::File))));
-    let length = read_file(&rt, alloc, "ts_tasks_test/node.b")?.len();
+    let length = read_file(&rt, alloc, "ts_files_test/node.b")?.len();
     let appended = append_round(&rt, alloc)?;
     let kept = owner_of(&rt, alloc, PATH)?;
     assert_eq!(rt; (length, appended, kept), (26, true, Some((2, true))));
@@ -70,26 +70,26 @@ const OLD: [u8; 27] = [
 #[test]
 fn a_record_of_version_1_is_migrated(rt: HostRuntime) -> Result<(), Fail> {
     let alloc = rt.alloc();
-    let _ = fs::remove_dir_all(&rt, "ts_tasks_old");
-    fs::create_dir(&rt, "ts_tasks_old")?;
-    fs::write(&rt, "ts_tasks_old/old", &OLD)?;
+    let _ = fs::remove_dir_all(&rt, "ts_files_old");
+    fs::create_dir(&rt, "ts_files_old")?;
+    fs::write(&rt, "ts_files_old/old", &OLD)?;
     let made = (
-        migrate_files(&rt, alloc, "ts_tasks_old/old", "ts_tasks_old/new"),
-        migrate_files(&rt, alloc, "ts_tasks_old/old", "ts_tasks_old/new"),
+        migrate_files(&rt, alloc, "ts_files_old/old", "ts_files_old/new"),
+        migrate_files(&rt, alloc, "ts_files_old/old", "ts_files_old/new"),
     );
     assert_eq!(rt; made, (Ok(1), Err(TaskFault::File)));
-    let kept = owner_of(&rt, alloc, "ts_tasks_old/new")?;
-    let old = read_file(&rt, alloc, "ts_tasks_old/old")?;
+    let kept = owner_of(&rt, alloc, "ts_files_old/new")?;
+    let old = read_file(&rt, alloc, "ts_files_old/old")?;
     assert_eq!(rt; (kept, old.as_slice()), (Some((2, true)), OLD.as_slice()));
-    fs::remove_dir_all(&rt, "ts_tasks_old")?;
+    fs::remove_dir_all(&rt, "ts_files_old")?;
     Ok(())
 }
 
 #[test]
 fn one_process_has_a_record(rt: HostRuntime) -> Result<(), Fail> {
     let alloc = rt.alloc();
-    let path = "ts_tasks_locked";
-    let other = "ts_tasks_locked.b";
+    let path = "ts_files_locked";
+    let other = "ts_files_locked.b";
     format_files(&rt, alloc, path, 1, 1, 0)?;
     let held = RecordLock::of_record(&rt, alloc, path)?;
     let second = RecordLock::of_record(&rt, alloc, path);

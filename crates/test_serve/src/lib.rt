@@ -1,8 +1,13 @@
-//! Tests of frames and of servers, over the public calls of their crates.
+//! Tests of frames, of servers, and of connections as values, over the public calls of their
+//! crates.
 //!
 //! In a crate of their own they are proved alone: a crate with tests is proved once more with them.
 #![tactic(auto)]
 
+#[cfg(test)]
+mod link_tests;
+#[cfg(test)]
+mod numbers;
 #[cfg(test)]
 mod serve_tests;
 #[cfg(test)]

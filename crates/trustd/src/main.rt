@@ -1,10 +1,16 @@
-//! The program `trustd`: reads the command line, and runs what it asks for.
+//! The program `trustd`: reads the command line, and runs what it asks for. The tasks of a node are
+//! here: its record is made and served. Those of clients are in `ts_client`.
 #![tactic(auto)]
 
 ghost use Rattle.std.specs.Prelude.{◌≡◌, ◌≤◌, OnErr, Ok, true, false};
 ghost use Rattle.ts_cli.specs.Says.{IsInRange};
 ghost use Rattle.ts_exchange.specs.declared.ending.Ending.TheVariants.{Well, Refused};
 
+mod grouping;
+mod programs;
+mod running;
+
+use crate::running::run;
 use std::io;
 use std::io::Input;
 use std::process::ExitCode;
@@ -12,14 +18,21 @@ use ts_cli::{Task, report, task_of_process};
 use ts_exchange::Ending;
 use ts_lab::lab;
 use ts_offline::{TaskFault, verify_files};
-use ts_tasks::run;
 
 /// Ends with the status of the task that the command line asks for, and with 2 for a wrong command
-/// line.
+/// line. What owns the words is let go by `drop`, which keeps the proof short.
 fn main(rt: HostRuntime) -> ExitCode {
     let status = match task_of_process(&rt) {
-        Ok(task) => status_of_task(&rt, &task),
-        Err(fault) => report(&rt, &fault),
+        Ok(task) => {
+            let status = status_of_task(&rt, &task);
+            drop(task);
+            status
+        }
+        Err(fault) => {
+            let status = report(&rt, &fault);
+            drop(fault);
+            status
+        }
     };
     ExitCode::from(status)
 }

@@ -51,7 +51,7 @@ fn log_walk(from: u32, k: Option<u32>) -> PageWalk
 }
 
 /// Runs a task of a client, which asks a node or makes a file. Nothing is done for the lab, for a
-/// verdict without a node, and for tasks of a node itself (`ts_tasks`).
+/// verdict without a node, and for tasks of a node itself (`trustd`).
 ///
 /// # Errors
 ///

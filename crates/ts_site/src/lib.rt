@@ -28,13 +28,14 @@
 //!
 //! # Not promised
 //!
-//! What pages show and ask the node for, and what is counted: `test_client`, and `tools/browser`.
+//! What pages show and ask the node for, and what is counted: `test_program`, and `tools/browser`.
 #![tactic(auto)]
 
 mod board;
 mod commanding;
 mod explaining;
 mod face;
+mod frames;
 mod gauging;
 mod laws;
 mod listing;

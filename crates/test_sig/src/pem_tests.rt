@@ -1,6 +1,6 @@
 //! Texts of OpenSSL, and faults.
 
-use crate::samples::{CERTIFICATE, CERTIFICATE_DIGEST, CRL, CRL_DIGEST};
+use crate::pem_samples::{CERTIFICATE, CERTIFICATE_DIGEST, CRL, CRL_DIGEST};
 use sha2::{Digest, Sha256};
 use std::alloc::{AllocError, Global};
 use std::test::Fail;

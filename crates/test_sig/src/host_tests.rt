@@ -1,6 +1,6 @@
 //! Hosts, by the examples of RFC 9525 6.3 and a certificate of OpenSSL.
 
-use crate::samples::CERTIFICATE;
+use crate::pem_samples::CERTIFICATE;
 use std::test::Fail;
 use ts_cert::Cert;
 use ts_host::{Host, HostFault, is_for};

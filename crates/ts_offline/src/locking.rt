@@ -1,10 +1,11 @@
 //! One process a record.
 
+use crate::fault::TaskFault;
+use crate::files::{fault_of, second};
 use std::alloc::Global;
 use std::fs::{File, OpenOptions, TryLockError};
 use std::os::unix::fs::OpenOptionsExt;
 use std::rt::Files;
-use ts_offline::{TaskFault, fault_of, second};
 
 /// The two files of a record, locked against every other process that locks them so, for as long as
 /// this is kept. The locks go with the process, however it ends.

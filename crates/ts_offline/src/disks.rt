@@ -2,6 +2,8 @@
 
 ghost use Rattle.std.specs.Prelude.{◌≤◌};
 
+use crate::fault::TaskFault;
+use crate::files::{fault_of, second};
 use crate::locking::RecordLock;
 use std::alloc::Global;
 use std::fs::File;
@@ -9,7 +11,6 @@ use std::rt::Files;
 use ts_command::Command;
 use ts_disk::Disk;
 use ts_file::{FileDisk, create, open};
-use ts_offline::{TaskFault, fault_of, second};
 use ts_record::Record;
 
 /// The two disks of a record that is there: the file, and the one whose name ends in `.b`.

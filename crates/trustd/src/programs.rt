@@ -2,9 +2,7 @@
 
 ghost use Rattle.std.specs.Prelude.{◌≤◌};
 
-use crate::disks::{format_files, migrate_files, open_disks};
 use crate::grouping::{access_of, group_of, say_start};
-use crate::locking::RecordLock;
 use std::alloc::Global;
 use std::fs::File;
 use std::io::Print;
@@ -18,7 +16,8 @@ use ts_loop::{LoopFault, serve_all};
 use ts_memo::{MemoCheck, ServedCheck};
 use ts_meter::{Meter, MeteredDisk};
 use ts_node::Node;
-use ts_offline::{MAX_TABLE, TaskFault, read_within};
+use ts_offline::{MAX_TABLE, RecordLock, TaskFault, read_within};
+use ts_offline::{format_files, migrate_files, open_disks};
 use ts_peers::Group;
 use ts_serve::Server;
 use ts_sig::TableCheck;
