@@ -186,10 +186,12 @@ fn rows_hold(
 }
 
 /// Whether each stream in turn is answered so by node 1 of 1. A server is let go in one place of a
-/// function, since each such place is proved.
+/// function, and by `drop`, since each such place is proved.
 fn are_answered(alloc: Global, rows: &[(&[u8], &[u8])]) -> Result<bool, AllocError> {
     let mut server = server(alloc, 1, 1, u64::MAX)?;
-    rows_hold(alloc, &mut server, rows)
+    let are_so = rows_hold(alloc, &mut server, rows);
+    drop(server);
+    are_so
 }
 
 #[test]
@@ -218,7 +220,9 @@ fn end_behind_status(
     let mut whole = Vec::from_slice(alloc, STATUS)?;
     whole.extend_from_slice(stream)?;
     let mut server = server(alloc, 1, 1, u64::MAX)?;
-    end_of(alloc, &mut server, &whole)
+    let end = end_of(alloc, &mut server, &whole);
+    drop(server);
+    end
 }
 
 #[test]
@@ -279,7 +283,9 @@ fn fault_at_end<R: Read, W: Write>(
     writer: &mut W,
 ) -> Result<Option<ServeFault>, AllocError> {
     let mut server = server(alloc, 1, 1, u64::MAX)?;
-    Ok(serve(&mut server, reader, writer).err())
+    let end = serve(&mut server, reader, writer);
+    drop(server);
+    Ok(end.err())
 }
 
 /// What Submit and then Take are answered where the two come in two pieces, of which the first has
@@ -481,7 +487,7 @@ fn is_failure_answered(alloc: Global) -> Result<bool, AllocError> {
     let first = answers_of(alloc, &mut server, SUBMIT);
     let second = answers_of(alloc, &mut server, STATUS);
     let has_failed = server.has_failed();
-    let _node = server.close();
+    drop(server.close());
     is_failure(&first, &second).map(|is_said| is_said && has_failed)
 }
 
@@ -622,7 +628,9 @@ fn listen_once(
     listener: &TcpListener,
 ) -> Result<Result<(), ServeFault>, AllocError> {
     let mut server = peer(alloc, 1, 1)?.close();
-    Ok(listen(&mut server, listener, 1))
+    let end = listen(&mut server, listener, 1);
+    drop(server);
+    Ok(end)
 }
 
 #[test]
@@ -715,7 +723,9 @@ fn loses_staged(alloc: Global, server: &mut Served) -> Result<bool, AllocError>
 /// Whether a new server knows what it stages.
 fn is_staged_known(alloc: Global) -> Result<bool, AllocError> {
     let mut server = server(alloc, 1, 1, u64::MAX)?;
-    knows_staged(alloc, &mut server)
+    let is_known = knows_staged(alloc, &mut server);
+    drop(server);
+    is_known
 }
 
 #[test]
@@ -727,7 +737,9 @@ fn what_is_staged_is_known(rt: HostRuntime) -> Result<(), Fail> {
 /// Whether a new server whose disk fails loses what it stages.
 fn is_staged_lost(alloc: Global) -> Result<bool, AllocError> {
     let mut server = server(alloc, 1, 1, 2)?;
-    loses_staged(alloc, &mut server)
+    let is_lost = loses_staged(alloc, &mut server);
+    drop(server);
+    is_lost
 }
 
 #[test]
@@ -770,7 +782,9 @@ fn answers_frames(alloc: Global, server: &mut Served) -> Result<bool, AllocError
 /// Whether a new server answers them so.
 fn are_frames_answered(alloc: Global) -> Result<bool, AllocError> {
     let mut server = server(alloc, 2, 3, u64::MAX)?;
-    answers_frames(alloc, &mut server)
+    let are_answered = answers_frames(alloc, &mut server);
+    drop(server);
+    are_answered
 }
 
 #[test]
@@ -789,7 +803,9 @@ fn given_after(alloc: Global, commands: u8) -> Result<(usize, Option<[u8; 4]>), 
     }
     stream.extend_from_slice(TAKE)?;
     let mut server = server(alloc, 1, 3, u64::MAX)?;
-    let (said, _end) = answers(alloc, &mut server, &stream)?;
+    let said = answers(alloc, &mut server, &stream).map(|(said, _end)| said);
+    drop(server);
+    let said = said?;
     let started = usize::from(commands) * STARTED.len();
     Ok((
         said.len().saturating_sub(started),

@@ -5,11 +5,11 @@ use std::fs;
 use std::io::Read;
 use std::rt::Files;
 use ts_access::{Key, Role};
-use ts_check::ALGORITHMS;
 use ts_cli::{ServeWords, VERSION, peer_of};
 use ts_meter::Meter;
 use ts_offline::{TaskFault, fault_of, key_in, keyring_of};
 use ts_peers::{Group, PeerAddress};
+use ts_sig::ALGORITHMS;
 use ts_sockets::Access;
 
 /// Where a record's header has the number of its node, and behind it how many nodes there are.

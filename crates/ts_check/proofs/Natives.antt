@@ -2,9 +2,9 @@
 use Rattle.std.proofs.Common.{◌≡◌, ℕ, true, List, Some, refl}
 use Rattle.ts_der.specs.Octets.{AreOctets}
 use Rattle.ts_sig.specs.Key.{Key}
-use Rattle.ts_check.specs.declared.algorithm.SignatureAlgorithm.{SignatureAlgorithm}
-use Rattle.ts_check.specs.declared.algorithm.SignatureAlgorithm.TheVariants.{Pkcs1, Pss, Ecdsa, Ed25519}
-use Rattle.ts_check.specs.Algorithm.{algorithm_named}
+use Rattle.ts_sig.specs.declared.algorithm.SignatureAlgorithm.{SignatureAlgorithm}
+use Rattle.ts_sig.specs.declared.algorithm.SignatureAlgorithm.TheVariants.{Pkcs1, Pss, Ecdsa, Ed25519}
+use Rattle.ts_sig.specs.Algorithm.{algorithm_named}
 use Rattle.ts_check.specs.Native.{IsBy, IsNativeSignature, takes, native_accepts}
 use Rattle.ts_check.proofs.Keys.{holds-found}
 use Rattle.ts_check.proofs.ByEcdsa.{ecdsa-found, ecdsa-again}

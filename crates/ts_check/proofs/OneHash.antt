@@ -9,14 +9,14 @@ use Rattle.ts_rsa.specs.Octets.{os2ip, i2osp}
 use Rattle.ts_rsa.specs.Pkcs1.{prefix_of, digest_info, encoded_around}
 use Rattle.ts_rsa.specs.Tests.{key_test, pkcs1_accepts, pkcs1_test, pss_accepts, pss_test, pss_encoding_test}
 use Rattle.ts_ecdsa.specs.Tests.{is_ecdsa_signature_of}
-use Rattle.ts_check.specs.declared.algorithm.SignatureAlgorithm.{SignatureAlgorithm}
-use Rattle.ts_check.specs.declared.algorithm.SignatureAlgorithm.TheVariants.{Pkcs1, Pss, Ecdsa, Ed25519}
-use Rattle.ts_check.specs.Algorithm.{algorithm_named}
+use Rattle.ts_sig.specs.declared.algorithm.SignatureAlgorithm.{SignatureAlgorithm}
+use Rattle.ts_sig.specs.declared.algorithm.SignatureAlgorithm.TheVariants.{Pkcs1, Pss, Ecdsa, Ed25519}
+use Rattle.ts_sig.specs.Algorithm.{algorithm_named, hash_by, hash_named}
 use Rattle.ts_check.specs.Elliptic.{ecdsa_takes}
 use Rattle.ts_check.specs.PublicKey.{public_of}
 use Rattle.ts_check.specs.Rsa.{standard, is_for_rsa, pkcs1_takes, pss_takes, holds_of_public}
 use Rattle.ts_check.specs.Options.{holds_of}
-use Rattle.ts_check.specs.Native.{takes, native_accepts, hash_by, hash_named}
+use Rattle.ts_check.specs.Native.{takes, native_accepts}
 
 module _ (hash : Hash) (key : Key) (a b signature : List ℕ) (e : hash_of hash a ≡ hash_of hash b) where
   by_pkcs1 : pkcs1_takes hash key a signature ≡ pkcs1_takes hash key b signature

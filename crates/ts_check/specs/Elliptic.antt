@@ -8,7 +8,7 @@ use Rattle.ts_ecdsa.specs.declared.curve.Curve.TheVariants.{P256, P384}
 use Rattle.ts_ecdsa.specs.Curve.{curve_of}
 use Rattle.ts_ecdsa.specs.Signature.{IsEcdsaSignature}
 use Rattle.ts_ecdsa.specs.Tests.{is_ecdsa_signature_of}
-use Rattle.ts_check.specs.Algorithm.{short}
+use Rattle.ts_sig.specs.Algorithm.{short}
 use Rattle.ts_check.specs.Options.{holds_of}
 
 -- the content of OBJECT IDENTIFIER id-ecPublicKey, 1.2.840.10045.2.1

@@ -1,5 +1,4 @@
 pub mod Options
-pub mod Algorithm
 pub mod PublicKey
 pub mod Rsa
 pub mod Elliptic

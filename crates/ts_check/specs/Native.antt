@@ -1,11 +1,11 @@
 -- The signatures that this project checks by itself.
-use Rattle.std.specs.Prelude.{◌≡◌, ℕ, Bool, List, Option, Some, None, option_and_then}
+use Rattle.std.specs.Prelude.{◌≡◌, ℕ, Bool, List, Some}
 use Rattle.ts_sig.specs.Key.{Key}
 use Rattle.ts_digest.specs.declared.hash.Hash.{Hash}
-use Rattle.ts_check.specs.declared.algorithm.SignatureAlgorithm.{SignatureAlgorithm}
-use Rattle.ts_check.specs.declared.algorithm.SignatureAlgorithm.TheVariants.{Pkcs1, Pss, Ecdsa}
-use Rattle.ts_check.specs.declared.algorithm.SignatureAlgorithm.TheVariants.{Ed25519}
-use Rattle.ts_check.specs.Algorithm.{algorithm_named}
+use Rattle.ts_sig.specs.declared.algorithm.SignatureAlgorithm.{SignatureAlgorithm}
+use Rattle.ts_sig.specs.declared.algorithm.SignatureAlgorithm.TheVariants.{Pkcs1, Pss, Ecdsa}
+use Rattle.ts_sig.specs.declared.algorithm.SignatureAlgorithm.TheVariants.{Ed25519}
+use Rattle.ts_sig.specs.Algorithm.{algorithm_named}
 use Rattle.ts_check.specs.Options.{holds_of}
 use Rattle.ts_check.specs.Rsa.{pkcs1_takes, pss_takes, IsByPkcs1, IsByPss}
 use Rattle.ts_check.specs.Elliptic.{ecdsa_takes, IsByEcdsa}
@@ -36,14 +36,3 @@ takes Ed25519 key signed signature = ed25519_takes key signed signature
 unfoldable pub native_accepts : List ℕ → Key → List ℕ → List ℕ → Bool
 native_accepts identifier key signed signature =
     holds_of (algorithm_named identifier) (λ algorithm. takes algorithm key signed signature)
-
--- the function by which an algorithm hashes what is signed; Ed25519 signs the octets themselves
-abbrev pub hash_by : SignatureAlgorithm → Option Hash
-hash_by (Pkcs1 hash) = Some hash
-hash_by (Pss hash) = Some hash
-hash_by (Ecdsa hash) = Some hash
-hash_by Ed25519 = None
-
--- that of the algorithm that an identifier names
-unfoldable pub hash_named : List ℕ → Option Hash
-hash_named identifier = option_and_then hash_by (algorithm_named identifier)

@@ -6,7 +6,8 @@ ghost use Rattle.ts_der.specs.Octets.{AreOctets};
 ghost use Rattle.ts_sig.specs.Key.{Key};
 ghost use Rattle.ts_digest.specs.declared.hash.Hash.{Hash};
 ghost use Rattle.ts_digest.specs.Hash.{hash_of};
-ghost use Rattle.ts_check.specs.Native.{IsNativeSignature, hash_named, native_accepts};
+ghost use Rattle.ts_sig.specs.Algorithm.{hash_named};
+ghost use Rattle.ts_check.specs.Native.{IsNativeSignature, native_accepts};
 
 /// What the native check accepts is a signature by the algorithm that the identifier names, and
 /// each such signature is accepted.

@@ -1,5 +1,5 @@
-//! The check of signatures that a trust store uses: which algorithm an AlgorithmIdentifier names,
-//! which key is for it, and whether the signature is good, by RSA, ECDSA and Ed25519.
+//! The check of signatures that a trust store uses: which key is for the algorithm that an
+//! AlgorithmIdentifier names, and whether the signature is good, by RSA, ECDSA and Ed25519.
 //!
 //! ```text
 //! NativeCheck.good(algorithm, &key, signed, signature)      // no options, no state
@@ -13,13 +13,11 @@
 //! What is proved of each call:
 //!
 //! - [`NativeCheck`]'s `good`: the answer is `native_accepts` of the four values (`specs/Native`).
-//! - [`hash_named`]: the function by which an algorithm hashes what is signed; law
-//!   [`laws::one_hash_has_one_answer`]: signed octets with one hash have the same good signatures.
+//! - law [`laws::one_hash_has_one_answer`]: signed octets with one hash, by the function that the
+//!   identifier names (`hash_named` of `ts_sig`), have the same good signatures.
 //! - law [`laws::accepts_signatures`]: that test is true exactly where the identifier names an
 //!   algorithm and the signature is one by it: `IsNativeSignature`, by the relations of `ts_rsa`,
 //!   `ts_ecdsa` and `ts_eddsa`.
-//! - [`algorithm_named`]: the algorithm that an identifier names, exactly. [`ALGORITHMS`]: which
-//!   there are, in words.
 //!
 //! No call allocates. docs/SIGNATURES.md has each algorithm with its section.
 //!
@@ -29,7 +27,6 @@
 //! that nobody but the key's owner can sign.
 #![tactic(auto)]
 
-mod algorithm;
 mod edwards;
 mod elliptic;
 pub mod laws;
@@ -37,5 +34,4 @@ mod native;
 mod public_key;
 mod rsa;
 
-pub use algorithm::{ALGORITHMS, SignatureAlgorithm, algorithm_named, hash_named};
 pub use native::NativeCheck;

@@ -5,12 +5,11 @@ ghost use Rattle.ts_der.specs.Octets.{AreOctets};
 ghost use Rattle.ts_sig.specs.Key.{key_of};
 ghost use Rattle.ts_check.specs.Native.{IsNativeSignature, native_accepts, takes};
 
-use crate::algorithm::{SignatureAlgorithm, algorithm_named};
 use crate::edwards::ed25519_takes;
 use crate::elliptic::ecdsa_takes;
 use crate::rsa::{pkcs1_takes, pss_takes};
 use ts_digest::Message;
-use ts_sig::{SignatureCheck, WorkingKey};
+use ts_sig::{SignatureAlgorithm, SignatureCheck, WorkingKey, algorithm_named};
 
 /// Checks signatures by RSA, ECDSA and Ed25519. It has no state: each node that has this version
 /// answers alike.

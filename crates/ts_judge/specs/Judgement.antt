@@ -3,8 +3,8 @@ use Rattle.std.specs.Prelude.{◌≡◌, ℕ, Bool, true, false, List, length, O
 use Rattle.ts_cert.specs.Certificate.{Certificate}
 use Rattle.ts_host.specs.declared.host.Host.{Host}
 use Rattle.ts_path.specs.Asked.{TrustAnchor, ValidationInputs}
-use Rattle.ts_report.specs.Fields.{IsJson, is_valid}
-use Rattle.ts_report.specs.Text.{IsText}
+use Rattle.ts_judge.specs.Fields.{IsJson, is_valid}
+use Rattle.ts_judge.specs.Text.{IsText}
 use Rattle.ts_line.specs.Lines.{with_line_feed}
 use Rattle.ts_verify.specs.Report.{IsReport, search_with}
 use Rattle.ts_verify.specs.declared.report.Report.{Report}

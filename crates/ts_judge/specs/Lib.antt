@@ -1,3 +1,5 @@
+pub mod Text
+pub mod Fields
 pub mod Given
 pub mod Judgement
 pub mod Vouching

@@ -4,23 +4,24 @@ ghost use Rattle.std.specs.Prelude.{◌≡◌, ◌≤◌, length, map, option_ma
 ghost use Rattle.ts_cert.specs.CertView.{cert_in, certificate_in};
 ghost use Rattle.ts_crl.specs.ListView.{crl_in};
 ghost use Rattle.ts_path.specs.View.{anchor_in};
-ghost use Rattle.ts_report.specs.Fields.{is_valid};
+ghost use Rattle.ts_judge.specs.Fields.{is_valid};
 ghost use Rattle.ts_judge.specs.Given.{anchors_of, asked_of, asked_with, is_count, octets_of};
 ghost use Rattle.ts_judge.specs.Given.{AreRead, IsRefusal, is_hard};
 ghost use Rattle.ts_judge.specs.Judgement.{IsJudgement, IsPrinted};
 ghost use Rattle.ts_judge.specs.inside.Views.{AreInputs};
 
 use crate::fault::GivenFault;
+use crate::fields::{is_valid, json};
 use crate::given::{GivenChain, VerifyOptions};
+use crate::printed::text;
 use crate::reading::{Views, views_of};
 use std::alloc::{AllocError, Global};
 use ts_check::NativeCheck;
 use ts_der::OidRef;
 use ts_host::Host;
 use ts_path::Inputs;
-use ts_report::{json, text};
 use ts_revoke::Crls;
-use ts_verify::{Finding, Report, verify};
+use ts_verify::{Report, verify};
 
 /// What is printed of a verdict, and whether the chain is valid.
 #[derive(Debug, Drop)]
@@ -31,13 +32,6 @@ pub struct Judgement {
     pub is_valid: bool,
     /// How many of the trust anchors are certificates.
     pub anchors: usize,
-}
-
-/// Whether a chain was found valid, and its leaf is for the host that is asked.
-fn is_valid(finding: &Finding<'_>) -> bool
-    ensures { result ≡ is_valid finding.now }
-{
-    matches!(finding, Finding::Valid(_))
 }
 
 /// The text of a report.

@@ -9,7 +9,7 @@ use Rattle.ts_sig.specs.Key.{Key}
 use Rattle.ts_check.specs.Native.{native_accepts}
 use Rattle.ts_digest.specs.declared.hash.Hash.{Hash}
 use Rattle.ts_digest.specs.Hash.{hash_of}
-use Rattle.ts_check.specs.Native.{hash_named}
+use Rattle.ts_sig.specs.Algorithm.{hash_named}
 use Rattle.ts_check.proofs.OneHash.{one_hash}
 use Rattle.ts_memo.specs.inside.Memo.{parameters_octets, text_octets, question_octets, StandsFor, IsShort, Asks, IsRight}
 

@@ -9,11 +9,11 @@ ghost use Rattle.ts_memo.specs.inside.Memo.{parameters_octets, question_octets, 
 
 use std::alloc::{AllocError, Global};
 use std::marker::Model;
-use ts_check::{NativeCheck, hash_named};
+use ts_check::NativeCheck;
 use ts_codec::writing::push_blob32;
 use ts_digest::Message;
 use ts_recent::{Key, Recent};
-use ts_sig::{SignatureCheck, WorkingKey};
+use ts_sig::{SignatureCheck, WorkingKey, hash_named};
 
 /// How many answers are kept.
 const MAX_ANSWERS: usize = 4_096;

@@ -5,7 +5,7 @@ use Rattle.base64.specs.Engines.{standard}
 use Rattle.base64.specs.GeneralPurpose.{encode_of}
 use Rattle.hex.specs.Hex.{encode_lower}
 use Rattle.ts_reason.specs.Printed.{reason_text}
-use Rattle.ts_report.specs.Fields.{section}
+use Rattle.ts_explain.specs.Sections.{section}
 use Rattle.ts_json.specs.declared.answer.AnswerFields.{AnswerFields}
 use Rattle.ts_question.specs.Question.{StoreQuestion, question_encoding}
 use Rattle.ts_question.specs.Reply.{NumberedReply}

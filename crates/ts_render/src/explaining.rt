@@ -6,10 +6,10 @@ ghost use Rattle.ts_render.specs.Line.{IsLine};
 use std::alloc::{AllocError, Global};
 use ts_cert::Cert;
 use ts_der::Oid;
+use ts_explain::reason_line;
 use ts_line::Line;
 use ts_question::{Question, Reply, Target};
 use ts_reason::Reason;
-use ts_report::reason_line;
 
 /// The certificates of a question, if it has any.
 fn strings_of(question: &Question) -> &[Vec<u8>] {

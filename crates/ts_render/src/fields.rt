@@ -6,7 +6,7 @@ ghost use Rattle.base64.specs.Engines.{standard};
 ghost use Rattle.base64.specs.GeneralPurpose.{encode_of};
 ghost use Rattle.ts_question.specs.Question.{question_encoding};
 ghost use Rattle.ts_reason.specs.Printed.{reason_text};
-ghost use Rattle.ts_report.specs.Fields.{section as section_of};
+ghost use Rattle.ts_explain.specs.Sections.{section as section_of};
 ghost use Rattle.ts_render.specs.Fields.{AreFields, AreWords, anchor_in, places_in};
 ghost use Rattle.ts_render.specs.Fields.{policies_in};
 ghost use Rattle.ts_render.specs.Texts.{IsPrintable, dotted_form};
@@ -18,10 +18,10 @@ use crate::text::{moment_text, text_of};
 use base64::engine::general_purpose::STANDARD;
 use std::alloc::{AllocError, Global};
 use ts_der::Oid;
+use ts_explain::section;
 use ts_json::AnswerFields;
 use ts_question::{Answer, Question, Reply};
 use ts_reason::Reason;
-use ts_report::section;
 
 /// The name of a reason.
 fn reason_name(alloc: Global, reason: &Reason<Oid>) -> Result<String, AllocError>

@@ -5,7 +5,8 @@ use Rattle.ts_codec.specs.Parts.{blob32}
 use Rattle.ts_sig.specs.Key.{Key}
 use Rattle.ts_digest.specs.declared.hash.Hash.{Hash}
 use Rattle.ts_digest.specs.Hash.{hash_of}
-use Rattle.ts_check.specs.Native.{hash_named, native_accepts}
+use Rattle.ts_sig.specs.Algorithm.{hash_named}
+use Rattle.ts_check.specs.Native.{native_accepts}
 
 -- whether a key has parameters, and which
 abbrev pub parameters_octets : Option (List ℕ) → List ℕ

@@ -1,15 +1,14 @@
 -- Which algorithm of signatures an AlgorithmIdentifier (RFC 5280 4.1.1.2) names: RFC 4055 3.1 and
 -- 5, RFC 5758 3.2, RFC 8410 3.
 use Rattle.std.specs.Prelude.{ℕ, Bool, true, false, ◌||◌, List, [], ◌∷◌, ◌++◌, length, Option, Some}
-use Rattle.std.specs.Prelude.{None}
-use Rattle.std.specs.Prelude.{if◌then◌else◌}
+use Rattle.std.specs.Prelude.{None, if◌then◌else◌, option_and_then}
 use Rattle.std.specs.Str.{bytes_eq}
 use Rattle.ts_digest.specs.declared.hash.Hash.{Hash}
 use Rattle.ts_digest.specs.declared.hash.Hash.TheVariants.{Sha256, Sha384, Sha512}
 use Rattle.ts_digest.specs.Hash.{hash_size}
-use Rattle.ts_check.specs.declared.algorithm.SignatureAlgorithm.{SignatureAlgorithm}
-use Rattle.ts_check.specs.declared.algorithm.SignatureAlgorithm.TheVariants.{Pkcs1, Pss, Ecdsa}
-use Rattle.ts_check.specs.declared.algorithm.SignatureAlgorithm.TheVariants.{Ed25519}
+use Rattle.ts_sig.specs.declared.algorithm.SignatureAlgorithm.{SignatureAlgorithm}
+use Rattle.ts_sig.specs.declared.algorithm.SignatureAlgorithm.TheVariants.{Pkcs1, Pss, Ecdsa}
+use Rattle.ts_sig.specs.declared.algorithm.SignatureAlgorithm.TheVariants.{Ed25519}
 
 -- an element whose content has fewer than 128 octets (X.690 8.1.3.4)
 abbrev pub short : ℕ → List ℕ → List ℕ
@@ -103,3 +102,14 @@ algorithm_named identifier =
     if bytes_eq identifier ed25519_identifier then Some Ed25519
     else or_else (named_with identifier Sha256)
     (or_else (named_with identifier Sha384) (named_with identifier Sha512))
+
+-- the function by which an algorithm hashes what is signed; Ed25519 signs the octets themselves
+abbrev pub hash_by : SignatureAlgorithm → Option Hash
+hash_by (Pkcs1 hash) = Some hash
+hash_by (Pss hash) = Some hash
+hash_by (Ecdsa hash) = Some hash
+hash_by Ed25519 = None
+
+-- that of the algorithm that an identifier names
+unfoldable pub hash_named : List ℕ → Option Hash
+hash_named identifier = option_and_then hash_by (algorithm_named identifier)

@@ -1,7 +1,7 @@
 //! The section of the standard that a reason is of.
 
 ghost use Rattle.std.specs.Prelude.{◌≡◌};
-ghost use Rattle.ts_report.specs.Fields.{section};
+ghost use Rattle.ts_explain.specs.Sections.{section};
 
 use ts_reason::Reason;
 

@@ -2,10 +2,10 @@
 
 use std::alloc::{AllocError, Global};
 use ts_cert::Cert;
-use ts_check::algorithm_named;
 use ts_der::OidRef;
 use ts_line::{Line, write_name, write_oid};
 use ts_reason::Reason;
+use ts_sig::algorithm_named;
 use ts_time::{Moment, print_general};
 
 /// Writes a moment as `2026-01-31 12:00:00 UTC`; one of no year from 0 to 9999 as its seconds.
@@ -90,11 +90,11 @@ fn write_issuer(alloc: Global, line: &mut Line, cert: &Cert<'_>) -> Result<(), A
 }
 
 /// Writes the words for a certificate whose issuer is no trust anchor.
-pub(crate) fn write_no_anchor(
-    alloc: Global,
-    line: &mut Line,
-    cert: &Cert<'_>,
-) -> Result<(), AllocError> {
+///
+/// # Errors
+///
+/// Out of memory.
+pub fn write_no_anchor(alloc: Global, line: &mut Line, cert: &Cert<'_>) -> Result<(), AllocError> {
     line.text(b"has the issuer ")?;
     write_name(alloc, line, cert.issuer())?;
     line.text(b", which is no trust anchor (RFC 5280 6.1.3 (a)(1), (a)(4))")

@@ -1,10 +1,9 @@
 //! Which algorithm an AlgorithmIdentifier names.
 
 ghost use Rattle.std.specs.Prelude.{◌≡◌, true, false};
-ghost use Rattle.ts_check.specs.Algorithm.{algorithm_named, ecdsa_identifier, ed25519_identifier};
-ghost use Rattle.ts_check.specs.Algorithm.{is_pkcs1, is_pss, named_with, pkcs1_identifier};
-ghost use Rattle.ts_check.specs.Algorithm.{pss_identifier};
-ghost use Rattle.ts_check.specs.Native.{hash_named};
+ghost use Rattle.ts_sig.specs.Algorithm.{algorithm_named, ecdsa_identifier, ed25519_identifier};
+ghost use Rattle.ts_sig.specs.Algorithm.{hash_named, is_pkcs1, is_pss, named_with};
+ghost use Rattle.ts_sig.specs.Algorithm.{pkcs1_identifier, pss_identifier};
 
 use ts_digest::Hash;
 
@@ -202,7 +201,7 @@ pub fn algorithm_named(identifier: &[u8]) -> Option<SignatureAlgorithm>
 /// The function by which the algorithm that an identifier names hashes what is signed: the
 /// signature depends on nothing else of it. `None` for Ed25519, which signs the octets themselves,
 /// and for what names no algorithm.
-#[tactic(auto, unfolding(crate::specs::Native::hash_named))]
+#[tactic(auto, unfolding(crate::specs::Algorithm::hash_named))]
 pub fn hash_named(identifier: &[u8]) -> Option<Hash>
     ensures { result ≡ hash_named identifier.now }
 {

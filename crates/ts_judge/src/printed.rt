@@ -7,12 +7,11 @@ ghost use Rattle.ts_reason.specs.Printed.{reason_text};
 ghost use Rattle.ts_reason.specs.View.{reason_in};
 ghost use Rattle.std.specs.List.{list_all};
 ghost use Rattle.ts_line.specs.Lines.{with_line_feed, is_printable, printable};
-ghost use Rattle.ts_report.specs.Text.{IsText, oid_text, policies_text, words_of};
+ghost use Rattle.ts_judge.specs.Text.{IsText, oid_text, policies_text, words_of};
 
-use crate::words::{write_no_anchor, write_reason};
 use std::alloc::{AllocError, Global};
-use ts_cert::Cert;
 use ts_der::OidRef;
+use ts_explain::{certificate_line, reason_line, write_no_anchor};
 use ts_line::{Line, write_name};
 use ts_reason::Reason;
 use ts_verify::{Finding, Report};
@@ -66,43 +65,6 @@ fn words_of(alloc: Global, report: &Report<'_>) -> Result<String, AllocError>
             format!(in alloc; "invalid {position} Host")
         }
     }
-}
-
-/// A line that begins with a certificate of the chain: its place and its subject.
-fn certificate_line(
-    alloc: Global,
-    position: usize,
-    chain: &[Cert<'_>],
-    cert: &Cert<'_>,
-) -> Result<Line, AllocError> {
-    let mut line = Line::of(alloc, b"certificate ")?;
-    line.number(position as u64)?;
-    line.text(b" of ")?;
-    line.number(chain.len() as u64)?;
-    line.text(b", ")?;
-    write_name(alloc, &mut line, cert.subject())?;
-    line.text(b", ")?;
-    Ok(line)
-}
-
-/// The line on the certificate at a place of a chain, counted from 1, the anchor's side, that does
-/// not meet a condition: the place, the subject, and why.
-///
-/// # Errors
-///
-/// Out of memory.
-pub fn reason_line(
-    alloc: Global,
-    chain: &[Cert<'_>],
-    position: u8,
-    reason: &Reason<OidRef<'_>>,
-) -> Result<Line, AllocError> {
-    let Some(cert) = chain.get((position as usize).saturating_sub(1)) else {
-        return Line::of(alloc, b"no certificate has this place");
-    };
-    let mut line = certificate_line(alloc, position as usize, chain, cert)?;
-    write_reason(alloc, &mut line, cert, reason)?;
-    Ok(line)
 }
 
 /// The line on a certificate that does not meet a condition.

@@ -3,15 +3,15 @@
 ghost use Rattle.std.specs.Prelude.{◌≡◌, IfOk, IfSome, length, map, option_map, string_bytes};
 ghost use Rattle.ts_reason.specs.Printed.{reason_text};
 ghost use Rattle.ts_reason.specs.View.{reason_in as said_in};
-ghost use Rattle.ts_report.specs.Fields.{AreFields, IsJson, IsPrintable, is_valid, place_in};
-ghost use Rattle.ts_report.specs.Fields.{policies_in, reason_in, section_in};
-ghost use Rattle.ts_report.specs.Text.{oid_text};
+ghost use Rattle.ts_judge.specs.Fields.{AreFields, IsJson, IsPrintable, is_valid, place_in};
+ghost use Rattle.ts_judge.specs.Fields.{policies_in, reason_in, section_in};
+ghost use Rattle.ts_judge.specs.Text.{oid_text};
 
 use crate::printed::{dotted_form, explanation};
-use crate::sections::section;
 use std::alloc::{AllocError, Global};
 use ts_cert::Cert;
 use ts_der::OidRef;
+use ts_explain::section;
 use ts_json::{VerdictFields, object_text};
 use ts_line::{Line, write_name};
 use ts_name::Name;
@@ -48,8 +48,8 @@ fn explanation_text(alloc: Global, report: &Report<'_>) -> Result<String, AllocE
     Ok(text)
 }
 
-/// Whether a chain is found valid.
-fn is_valid(finding: &Finding<'_>) -> bool
+/// Whether a chain was found valid, and its leaf is for the host that is asked.
+pub(crate) fn is_valid(finding: &Finding<'_>) -> bool
     ensures { result ≡ is_valid finding.now }
 {
     matches!(finding, Finding::Valid(_))
