@@ -803,9 +803,9 @@ fn given_after(alloc: Global, commands: u8) -> Result<(usize, Option<[u8; 4]>), 
     }
     stream.extend_from_slice(TAKE)?;
     let mut server = server(alloc, 1, 3, u64::MAX)?;
-    let said = answers(alloc, &mut server, &stream).map(|(said, _end)| said);
+    let found = answers(alloc, &mut server, &stream);
     drop(server);
-    let said = said?;
+    let (said, _end) = found?;
     let started = usize::from(commands) * STARTED.len();
     Ok((
         said.len().saturating_sub(started),

@@ -4,7 +4,6 @@ ghost use Rattle.std.specs.Prelude.{◌≡◌, ◌≤◌, length, map, option_ma
 ghost use Rattle.ts_cert.specs.CertView.{cert_in, certificate_in};
 ghost use Rattle.ts_crl.specs.ListView.{crl_in};
 ghost use Rattle.ts_path.specs.View.{anchor_in};
-ghost use Rattle.ts_judge.specs.Fields.{is_valid};
 ghost use Rattle.ts_judge.specs.Given.{anchors_of, asked_of, asked_with, is_count, octets_of};
 ghost use Rattle.ts_judge.specs.Given.{AreRead, IsRefusal, is_hard};
 ghost use Rattle.ts_judge.specs.Judgement.{IsJudgement, IsPrinted};

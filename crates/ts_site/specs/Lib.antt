@@ -1,5 +1,4 @@
 pub mod Steps
-pub mod Frames
 pub mod Commanding
 pub mod Verdicts
 pub mod Listings

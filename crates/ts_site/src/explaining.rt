@@ -4,7 +4,6 @@ ghost use Rattle.std.specs.Prelude.{IfOk};
 ghost use Rattle.ts_site.specs.Requests.{Shows};
 
 use crate::board::Board;
-use crate::frames::reply_in;
 use crate::listing::rows_question;
 use crate::next::{Next, Waits, ask};
 use crate::refusing::{no_question_page, problem};
@@ -129,12 +128,12 @@ pub(crate) fn end_form(
 ) -> Result<Next, AllocError>
     ensures { IfOk result Shows }
 {
-    match reply_in(frame) {
-        Some(answer) => {
+    match frame {
+        Frame::Answer { answer } => {
             board.judged(answer.reply());
             take_answer(alloc, asked, pairs, answer)
         }
-        None => Ok(Next::Tell(problem(alloc, 503, "the node failed", &pairs)?)),
+        _ => Ok(Next::Tell(problem(alloc, 503, "the node failed", &pairs)?)),
     }
 }
 
@@ -238,7 +237,7 @@ pub(crate) fn go_on_anchors(
 ) -> Result<Next, AllocError>
     ensures { IfOk result Shows }
 {
-    let Some(answer) = reply_in(frame) else {
+    let Frame::Answer { answer } = frame else {
         return not_found(alloc, &explaining);
     };
     match answer.reply() {
@@ -256,8 +255,8 @@ pub(crate) fn end_explained(
 ) -> Result<Next, AllocError>
     ensures { IfOk result Shows }
 {
-    match reply_in(frame) {
-        Some(answer) => Ok(Next::Tell(page(alloc, asked, answer, EXPLAINED, pairs)?)),
-        None => Ok(Next::Tell(problem(alloc, 503, "the node failed", pairs)?)),
+    match frame {
+        Frame::Answer { answer } => Ok(Next::Tell(page(alloc, asked, answer, EXPLAINED, pairs)?)),
+        _ => Ok(Next::Tell(problem(alloc, 503, "the node failed", pairs)?)),
     }
 }

@@ -4,7 +4,6 @@ ghost use Rattle.std.specs.Prelude.{IfOk};
 ghost use Rattle.ts_site.specs.Requests.{Shows};
 
 use crate::board::{Board, Summary};
-use crate::frames::{prefix_in, reply_in};
 use crate::listing::rows_question;
 use crate::metrics::metrics_text;
 use crate::next::{Next, Waits, ask};
@@ -46,16 +45,16 @@ fn ask_rows(alloc: Global, gauging: Gauging) -> Result<Next, AllocError>
 pub(crate) fn go_on_metrics(alloc: Global, frame: &Frame, board: &Board) -> Result<Next, AllocError>
     ensures { IfOk result Shows }
 {
-    let Some(prefix) = prefix_in(frame) else {
+    let Frame::Prefix { prefix } = frame else {
         return Ok(Next::Tell(node_failed_line(alloc)?));
     };
     match &board.summary {
-        Some(summary) if summary.k == prefix => metrics(alloc, board, prefix),
+        Some(summary) if summary.k == *prefix => metrics(alloc, board, *prefix),
         _ => ask_rows(
             alloc,
             Gauging {
                 from: 0,
-                summary: Summary::nothing(prefix),
+                summary: Summary::nothing(*prefix),
             },
         ),
     }
@@ -104,7 +103,7 @@ pub(crate) fn go_on_gauge(
 ) -> Result<Next, AllocError>
     ensures { IfOk result Shows }
 {
-    let Some(answer) = reply_in(frame) else {
+    let Frame::Answer { answer } = frame else {
         return Ok(Next::Tell(node_failed_line(alloc)?));
     };
     match answer.reply() {

@@ -35,7 +35,6 @@ mod board;
 mod commanding;
 mod explaining;
 mod face;
-mod frames;
 mod gauging;
 mod laws;
 mod listing;
