@@ -6,3 +6,4 @@ pub mod Chain
 pub mod Replies
 pub mod Fields
 pub mod Line
+pub mod RowLines

@@ -14,8 +14,8 @@
 //!   [`valid_in`]: whether a reply says that a chain is valid, or that it isn't.
 //! - [`row_fields`]: `IsRow`, `IsNoRow` (`specs/Rows`): the fields of the row that octets are, or
 //!   that they are none. [`row_members`]: the fields as members of an object (`specs/RowMembers`).
-//! - [`write_row`], [`row_text`]: a row as a line that a person reads, and as the text of a JSON
-//!   object; tests say of which words.
+//! - [`row_text`]: the text of the object of these members. [`write_row`]: a row as a line that a
+//!   person reads, of which words `specs/RowLines` says.
 //! - [`chain_fields`]: the certificates of a question, of which the one is marked that a reply
 //!   names (`specs/Chain`).
 //! - [`explanation`]: `IsLine` (`specs/Line`): what a reply means in plain words, one line of

@@ -1,5 +1,16 @@
 //! The rows of a page, as lines that a person reads.
 
+ghost use Rattle.std.specs.Prelude.{◌≡◌, ◌++◌, IfOk, OnOk, codes, map, option_map, string_bytes};
+ghost use Rattle.std.specs.Prelude.{unwrap_or};
+ghost use Rattle.std.specs.Fmt.{decimal};
+ghost use Rattle.serde_json.specs.Written.{compact_text};
+ghost use Rattle.ts_json.specs.Members.{object_of};
+ghost use Rattle.ts_line.specs.Lines.{printable};
+ghost use Rattle.ts_render.specs.RowLines.{anchor_words, command_words, crl_word, crl_words};
+ghost use Rattle.ts_render.specs.RowLines.{extent_words, listed, part, purposes_words, row_words};
+ghost use Rattle.ts_render.specs.RowLines.{set_words, size_words};
+ghost use Rattle.ts_render.specs.RowMembers.{members_of_row};
+
 use crate::members::row_members;
 use crate::rows::{AnchorFields, CommandFields, CrlFields, PurposeFields, RowFields};
 use std::alloc::{AllocError, Global};
@@ -7,28 +18,41 @@ use ts_json::members_text;
 use ts_line::Line;
 
 /// Writes a text, or a question mark where there is none.
-fn write_known(line: &mut Line, text: Option<&str>) -> Result<(), AllocError> {
+fn write_known(line: &mut Line, text: Option<&str>) -> Result<(), AllocError>
+    ensures { OnOk result (line.new ≡ line.old
+        ++ printable (unwrap_or (option_map (λ word. word.now) text.entry) (codes "?"))) }
+{
     line.text(text.unwrap_or("?").as_bytes())
 }
 
+/// Writes a number in decimal.
+#[tactic(auto, using(ts_line::proofs::Plain::shown_decimal))]
+fn write_number(line: &mut Line, number: u64) -> Result<(), AllocError>
+    ensures { OnOk result (line.new ≡ line.old ++ printable (decimal number)) }
+{
+    line.number(number)
+}
+
 /// Writes texts, a comma between each two; `none` where there are none.
-fn write_texts(line: &mut Line, texts: &[String]) -> Result<(), AllocError> {
-    if texts.is_empty() {
+fn write_texts(line: &mut Line, texts: &[String]) -> Result<(), AllocError>
+    ensures { OnOk result (line.new ≡ line.old
+        ++ printable (listed (map string_bytes texts.now))) }
+{
+    let Some((first, others)) = texts.split_first() else {
         return line.text(b"none");
-    }
-    let mut is_first = true;
-    for text in texts {
-        if !is_first {
-            line.text(b",")?;
-        }
-        is_first = false;
+    };
+    line.text(first.as_bytes())?;
+    for text in others {
+        line.text(b",")?;
         line.text(text.as_bytes())?;
     }
     Ok(())
 }
 
 /// Writes purposes: `any`, `none`, or each in dotted form.
-fn write_purposes(line: &mut Line, purposes: &PurposeFields) -> Result<(), AllocError> {
+fn write_purposes(line: &mut Line, purposes: &PurposeFields) -> Result<(), AllocError>
+    ensures { OnOk result (line.new ≡ line.old ++ printable (purposes_words purposes.now)) }
+{
     match purposes {
         PurposeFields::Any => line.text(b"any"),
         PurposeFields::These(texts) => write_texts(line, texts),
@@ -37,7 +61,9 @@ fn write_purposes(line: &mut Line, purposes: &PurposeFields) -> Result<(), Alloc
 }
 
 /// Writes the line of an anchor: its id, its purposes, its name.
-fn write_anchor(line: &mut Line, row: &AnchorFields) -> Result<(), AllocError> {
+fn write_anchor(line: &mut Line, row: &AnchorFields) -> Result<(), AllocError>
+    ensures { OnOk result (line.new ≡ line.old ++ printable (anchor_words row.now)) }
+{
     line.text(b"anchor ")?;
     line.text(row.id.as_bytes())?;
     line.text(b" ")?;
@@ -47,7 +73,10 @@ fn write_anchor(line: &mut Line, row: &AnchorFields) -> Result<(), AllocError> {
 }
 
 /// Writes a word and a text between spaces, where there is one.
-fn write_part(line: &mut Line, word: &[u8], text: &Option<String>) -> Result<(), AllocError> {
+fn write_part(line: &mut Line, word: &[u8], text: &Option<String>) -> Result<(), AllocError>
+    ensures { OnOk result (line.new ≡ line.old
+        ++ printable (part word.now (option_map string_bytes text.now))) }
+{
     let Some(text) = text else {
         return Ok(());
     };
@@ -57,31 +86,70 @@ fn write_part(line: &mut Line, word: &[u8], text: &Option<String>) -> Result<(),
     line.text(text.as_bytes())
 }
 
-/// Writes the line of a CRL: its id, its numbers, its times, how many entries and octets it has,
-/// what it covers where it says so, its issuer.
-fn write_crl(line: &mut Line, row: &CrlFields) -> Result<(), AllocError> {
-    line.text(if row.base.is_some() {
-        b"delta "
-    } else {
-        b"crl "
-    })?;
-    line.text(row.id.as_bytes())?;
-    write_part(line, b"number", &row.number)?;
-    write_part(line, b"base", &row.base)?;
-    write_part(line, b"from", &row.this_update)?;
-    write_part(line, b"to", &row.next_update)?;
+/// The word that the line of a CRL begins with.
+fn crl_word(row: &CrlFields) -> &'static str
+    ensures { result.now ≡ crl_word row.now }
+{
+    match row.base {
+        Some(_) => "delta ",
+        None => "crl ",
+    }
+}
+
+/// Writes how many entries and octets a CRL has, what it covers where it says so, its issuer.
+fn write_extent(line: &mut Line, row: &CrlFields) -> Result<(), AllocError>
+    ensures { OnOk result (line.new ≡ line.old ++ printable (extent_words row.now)) }
+{
     line.text(b" entries ")?;
-    line.number(row.entries)?;
+    write_number(line, row.entries)?;
     line.text(b" octets ")?;
-    line.number(row.octets)?;
+    write_number(line, row.octets)?;
     write_part(line, b"scope", &row.scope)?;
     line.text(b" ")?;
     line.text(row.issuer.as_bytes())
 }
 
+/// Writes the line of a CRL: its id, its numbers, its times, how many entries and octets it has,
+/// what it covers where it says so, its issuer.
+fn write_crl(line: &mut Line, row: &CrlFields) -> Result<(), AllocError>
+    ensures { OnOk result (line.new ≡ line.old ++ printable (crl_words row.now)) }
+{
+    line.text(crl_word(row).as_bytes())?;
+    line.text(row.id.as_bytes())?;
+    write_part(line, b"number", &row.number)?;
+    write_part(line, b"base", &row.base)?;
+    write_part(line, b"from", &row.this_update)?;
+    write_part(line, b"to", &row.next_update)?;
+    write_extent(line, row)
+}
+
+/// Writes the purposes that a command sets, if it does.
+fn write_set(line: &mut Line, purposes: &Option<PurposeFields>) -> Result<(), AllocError>
+    ensures { OnOk result (line.new ≡ line.old ++ printable (set_words purposes.now)) }
+{
+    let Some(purposes) = purposes else {
+        return Ok(());
+    };
+    line.text(b" for ")?;
+    write_purposes(line, purposes)
+}
+
+/// Writes how many octets a command loads, if it does.
+fn write_size(line: &mut Line, octets: u64) -> Result<(), AllocError>
+    ensures { OnOk result (line.new ≡ line.old ++ printable (size_words octets)) }
+{
+    if octets == 0 {
+        return Ok(());
+    }
+    line.text(b" octets ")?;
+    write_number(line, octets)
+}
+
 /// Writes the line of a command: its kind, what it came to, its id, what it is about, the purposes
 /// that it sets, how many octets it loads.
-fn write_command(line: &mut Line, row: &CommandFields) -> Result<(), AllocError> {
+fn write_command(line: &mut Line, row: &CommandFields) -> Result<(), AllocError>
+    ensures { OnOk result (line.new ≡ line.old ++ printable (command_words row.now)) }
+{
     write_known(line, row.kind)?;
     line.text(b" ")?;
     match &row.outcome {
@@ -91,15 +159,8 @@ fn write_command(line: &mut Line, row: &CommandFields) -> Result<(), AllocError>
     line.text(b" id ")?;
     line.text(row.id.as_bytes())?;
     write_part(line, b"about", &row.about)?;
-    if let Some(purposes) = &row.purposes {
-        line.text(b" for ")?;
-        write_purposes(line, purposes)?;
-    }
-    if row.octets > 0 {
-        line.text(b" octets ")?;
-        line.number(row.octets)?;
-    }
-    Ok(())
+    write_set(line, &row.purposes)?;
+    write_size(line, row.octets)
 }
 
 /// Writes what a row says; of a command its position first.
@@ -107,12 +168,14 @@ fn write_command(line: &mut Line, row: &CommandFields) -> Result<(), AllocError>
 /// # Errors
 ///
 /// Out of memory.
-pub fn write_row(line: &mut Line, place: u32, row: &RowFields) -> Result<(), AllocError> {
+pub fn write_row(line: &mut Line, place: u32, row: &RowFields) -> Result<(), AllocError>
+    ensures { OnOk result (line.new ≡ line.old ++ printable (row_words place row.now)) }
+{
     match row {
         RowFields::Anchor(row) => write_anchor(line, row),
         RowFields::Crl(row) => write_crl(line, row),
         RowFields::Command(row) => {
-            line.number(u64::from(place))?;
+            write_number(line, u64::from(place))?;
             line.text(b" ")?;
             write_command(line, row)
         }
@@ -124,7 +187,10 @@ pub fn write_row(line: &mut Line, place: u32, row: &RowFields) -> Result<(), All
 /// # Errors
 ///
 /// Out of memory.
-pub fn row_text(alloc: Global, place: u32, row: RowFields) -> Result<String, AllocError> {
+pub fn row_text(alloc: Global, place: u32, row: RowFields) -> Result<String, AllocError>
+    ensures { IfOk result (λ text. string_bytes text
+        ≡ compact_text (object_of (members_of_row place row))) }
+{
     let members = row_members(alloc, u64::from(place), row)?;
     members_text(alloc, &members)
 }
