@@ -17,6 +17,7 @@ use Rattle.ts_api.specs.declared.route.Route.{Route}
 use Rattle.ts_api.specs.declared.route.Route.TheVariants as routes
 use Rattle.ts_api.specs.declared.scene.Scene.{Scene}
 use Rattle.ts_site.specs.Account.{IsAsked, IsAskedBehind}
+use Rattle.ts_site.specs.Frames.{prefix_in}
 use Rattle.ts_site.specs.Listings.{AsksRows}
 use Rattle.ts_site.specs.Requests.{BeginsAt, BeginsBy, BeginsCommands, GoesOn, is_shown, wants_other}
 use Rattle.ts_site.specs.Statuses.{AsksOutcome, EndsPrefix}
@@ -114,29 +115,11 @@ from_method false place s r asking asked route begins e = from_route place s r a
 
 -- ---- then
 
-none_behind_prefix : (frame : Frame) (asking : Asking) (asked : AskedQuestion) (route : Route)
-    → EndsPrefix frame (Ask asking.pending asking.frame)
+none_behind_prefix : (prefix : Option ℕ) (asking : Asking) (asked : AskedQuestion) (route : Route)
+    → EndsPrefix prefix (Ask asking.pending asking.frame)
     → asking.pending.waits ≡ waits.Verdict asked route → ⊥
-none_behind_prefix (frames.Prefix prefix) asking asked route ends e = no_verdict asking.pending.waits _ asked route ends.1 refl e
-none_behind_prefix (frames.Peer message) asking asked route ends e = ends
-none_behind_prefix (frames.Submit command) asking asked route ends e = ends
-none_behind_prefix (frames.Question question) asking asked route ends e = ends
-none_behind_prefix frames.Take asking asked route ends e = ends
-none_behind_prefix (frames.Outcome id) asking asked route ends e = ends
-none_behind_prefix frames.CatchUp asking asked route ends e = ends
-none_behind_prefix frames.Status asking asked route ends e = ends
-none_behind_prefix frames.Compact asking asked route ends e = ends
-none_behind_prefix frames.Identify asking asked route ends e = ends
-none_behind_prefix frames.Report asking asked route ends e = ends
-none_behind_prefix (frames.Done count) asking asked route ends e = ends
-none_behind_prefix (frames.Started position ballot) asking asked route ends e = ends
-none_behind_prefix (frames.Settled position outcome) asking asked route ends e = ends
-none_behind_prefix (frames.Answer answer) asking asked route ends e = ends
-none_behind_prefix frames.Unknown asking asked route ends e = ends
-none_behind_prefix (frames.NodeFault fault) asking asked route ends e = ends
-none_behind_prefix (frames.FrameFault fault) asking asked route ends e = ends
-none_behind_prefix (frames.Identity node nodes group) asking asked route ends e = ends
-none_behind_prefix (frames.Reported text) asking asked route ends e = ends
+none_behind_prefix (Some prefix) asking asked route ends e = no_verdict asking.pending.waits _ asked route ends.1 refl e
+none_behind_prefix None asking asked route ends e = ends
 
 none_behind : (w : Waits) (frame : Frame) (asking : Asking) (asked : AskedQuestion) (route : Route)
     → GoesOn w frame (Ask asking.pending asking.frame)
@@ -144,7 +127,7 @@ none_behind : (w : Waits) (frame : Frame) (asking : Asking) (asked : AskedQuesti
 none_behind (waits.Verdict a r) frame asking asked route goes e = goes
 none_behind (waits.Rows a) frame asking asked route goes e = goes
 none_behind waits.Health frame asking asked route goes e = goes
-none_behind waits.Prefix frame asking asked route goes e = none_behind_prefix frame asking asked route goes e
+none_behind waits.Prefix frame asking asked route goes e = none_behind_prefix (prefix_in frame) asking asked route goes e
 none_behind (waits.Identity prefix) frame asking asked route goes e = goes
 none_behind (waits.Command id) frame asking asked route goes e = goes
 none_behind (waits.Home a) frame asking asked route goes e = shown asking.pending.waits asked route goes e

@@ -1,4 +1,5 @@
 pub mod Steps
+pub mod Frames
 pub mod Commanding
 pub mod Verdicts
 pub mod Listings

@@ -1,6 +1,6 @@
 -- What a store holds and the commands that it took, over HTTP at /v1/store and /v1/log.
 use Rattle.std.specs.Prelude.{◌≡◌, ◌⊎◌, ◌+◌, ◌++◌, ℕ, Bool, true, false, List, [], ◌∷◌}
-use Rattle.std.specs.Prelude.{Option, Result, Ok, Err, codes, is_some, unwrap_or}
+use Rattle.std.specs.Prelude.{Option, Some, None, Result, Ok, Err, codes, is_some, unwrap_or}
 use Rattle.std.specs.Fmt.{decimal}
 use Rattle.ts_form.specs.Pairs.{NamedValue}
 use Rattle.ts_form.specs.Rows.{IsRefusedInAll, SetsAll, no_rows}
@@ -17,8 +17,7 @@ use Rattle.ts_question.specs.declared.reply.Reply.TheVariants.{NotYet, Page}
 use Rattle.ts_render.specs.RowMembers.{members_of_row}
 use Rattle.ts_render.specs.Rows.{IsNoRow, IsRow}
 use Rattle.ts_render.specs.declared.rows.RowFields.{RowFields}
-use Rattle.ts_wire.specs.declared.frame.Frame.{Frame}
-use Rattle.ts_wire.specs.declared.frame.Frame.TheVariants.{Answer, Question}
+use Rattle.ts_wire.specs.declared.frame.Frame.TheVariants.{Question}
 use Rattle.ts_api.specs.Asking.{pairs_in}
 use Rattle.ts_api.specs.Response.{IsError, Tells, json_line}
 use Rattle.ts_api.specs.Words.{fault_words}
@@ -99,6 +98,6 @@ TellsReply asked answer (NotYet prefix) response = IsError 404 (not_yet_words pr
 TellsReply asked answer reply response = IsError 503 failed response
 
 -- what is told once the node has answered
-abbrev pub TellsRows : RowsAsked → Frame → Response → Type 0
-TellsRows asked (Answer answer) response = TellsReply asked answer answer.reply response
-TellsRows asked frame response = IsError 503 failed response
+abbrev pub TellsRows : RowsAsked → Option NumberedReply → Response → Type 0
+TellsRows asked (Some answer) response = TellsReply asked answer answer.reply response
+TellsRows asked None response = IsError 503 failed response

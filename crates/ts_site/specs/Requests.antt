@@ -17,6 +17,7 @@ use Rattle.ts_api.specs.declared.route.Route.{Route}
 use Rattle.ts_api.specs.declared.route.Route.TheVariants as routes
 use Rattle.ts_api.specs.declared.scene.Scene.{Scene}
 use Rattle.ts_site.specs.Commanding.{BeginsCommand}
+use Rattle.ts_site.specs.Frames.{prefix_in, reply_in}
 use Rattle.ts_site.specs.Listings.{BeginsRows, TellsRows}
 use Rattle.ts_site.specs.Statuses.{BeginsOutcome, EndsPrefix, TellsCommand, TellsHealth}
 use Rattle.ts_site.specs.Statuses.{TellsStatus}
@@ -91,10 +92,11 @@ Begins s r next = BeginsBy (wants_other (route_in r.target.items) (method_of r.m
 
 -- what the node's answer comes to
 abbrev pub GoesOn : Waits → Frame → Next → Type 0
-GoesOn (waits.Verdict asked route) frame next = Answers (TellsVerdict asked route frame) next
-GoesOn (waits.Rows asked) frame next = Answers (TellsRows asked frame) next
-GoesOn waits.Health frame next = Answers (TellsHealth frame) next
-GoesOn waits.Prefix frame next = EndsPrefix frame next
+GoesOn (waits.Verdict asked route) frame next =
+    Answers (TellsVerdict asked route (reply_in frame)) next
+GoesOn (waits.Rows asked) frame next = Answers (TellsRows asked (reply_in frame)) next
+GoesOn waits.Health frame next = Answers (TellsHealth (prefix_in frame)) next
+GoesOn waits.Prefix frame next = EndsPrefix (prefix_in frame) next
 GoesOn (waits.Identity prefix) frame next = Answers (TellsStatus prefix frame) next
 GoesOn (waits.Command id) frame next = Answers (TellsCommand id frame) next
 GoesOn other frame next = Shows next

@@ -18,14 +18,14 @@ use Rattle.ts_site.specs.declared.next.Next.{Next}
 use Rattle.ts_site.specs.declared.next.Waits.TheVariants as waits
 
 -- a node that answers is well
-abbrev pub TellsHealth : Frame → Response → Type 0
-TellsHealth (frames.Prefix prefix) response = IsLine 200 (codes "ok") response
-TellsHealth frame response = IsLine 503 failed response
+abbrev pub TellsHealth : Option ℕ → Response → Type 0
+TellsHealth (Some prefix) response = IsLine 200 (codes "ok") response
+TellsHealth None response = IsLine 503 failed response
 
 -- a node that knows so many commands is asked which it is
-abbrev pub EndsPrefix : Frame → Next → Type 0
-EndsPrefix (frames.Prefix prefix) next = AsksNode frames.Identify (waits.Identity prefix) next
-EndsPrefix frame next = Answers (IsError 503 failed) next
+abbrev pub EndsPrefix : Option ℕ → Next → Type 0
+EndsPrefix (Some prefix) next = AsksNode frames.Identify (waits.Identity prefix) next
+EndsPrefix None next = Answers (IsError 503 failed) next
 
 abbrev pub status_members : ℕ → ℕ → ℕ → ℕ → List Member
 status_members prefix node nodes group = (codes "prefix", whole prefix)

@@ -1,5 +1,5 @@
 -- Questions over HTTP at /v1/verify and /v1/check, and what is answered.
-use Rattle.std.specs.Prelude.{◌&&◌, ℕ, ℤ, Bool, true, List, Option, Some}
+use Rattle.std.specs.Prelude.{◌&&◌, ℕ, ℤ, Bool, true, List, Option, Some, None}
 use Rattle.std.specs.Prelude.{Result, Ok, Err, if◌then◌else◌}
 use Rattle.ts_json.specs.Answer.{answer_in}
 use Rattle.ts_json.specs.declared.answer.AnswerFields.{AnswerFields}
@@ -7,8 +7,7 @@ use Rattle.ts_question.specs.Reply.{NumberedReply}
 use Rattle.ts_question.specs.declared.reply.Reply.{Reply}
 use Rattle.ts_render.specs.Fields.{AreFields}
 use Rattle.ts_render.specs.Replies.{is_final, valid_in}
-use Rattle.ts_wire.specs.declared.frame.Frame.{Frame}
-use Rattle.ts_wire.specs.declared.frame.Frame.TheVariants.{Answer, Question}
+use Rattle.ts_wire.specs.declared.frame.Frame.TheVariants.{Question}
 use Rattle.ts_api.specs.Asking.{IsAskedBy}
 use Rattle.ts_api.specs.Response.{IsError, Tells, json_line}
 use Rattle.ts_api.specs.Words.{no_question_words}
@@ -53,6 +52,6 @@ IsVerdict asked route answer response = (fields : AnswerFields)
     (keeps_of asked.is_pinned answer.reply) (json_line (answer_in fields)) response
 
 -- what is told once the node has answered
-abbrev pub TellsVerdict : AskedQuestion → Route → Frame → Response → Type 0
-TellsVerdict asked route (Answer answer) response = IsVerdict asked route answer response
-TellsVerdict asked route frame response = IsError 503 failed response
+abbrev pub TellsVerdict : AskedQuestion → Route → Option NumberedReply → Response → Type 0
+TellsVerdict asked route (Some answer) response = IsVerdict asked route answer response
+TellsVerdict asked route None response = IsError 503 failed response

@@ -4,6 +4,7 @@ ghost use Rattle.std.specs.Prelude.{IfOk};
 ghost use Rattle.ts_site.specs.Requests.{Shows};
 
 use crate::board::Board;
+use crate::frames::reply_in;
 use crate::listing::rows_question;
 use crate::next::{Next, Waits, ask};
 use crate::refusing::{no_question_page, problem};
@@ -128,12 +129,12 @@ pub(crate) fn end_form(
 ) -> Result<Next, AllocError>
     ensures { IfOk result Shows }
 {
-    match frame {
-        Frame::Answer { answer } => {
+    match reply_in(frame) {
+        Some(answer) => {
             board.judged(answer.reply());
             take_answer(alloc, asked, pairs, answer)
         }
-        _ => Ok(Next::Tell(problem(alloc, 503, "the node failed", &pairs)?)),
+        None => Ok(Next::Tell(problem(alloc, 503, "the node failed", &pairs)?)),
     }
 }
 
@@ -237,7 +238,7 @@ pub(crate) fn go_on_anchors(
 ) -> Result<Next, AllocError>
     ensures { IfOk result Shows }
 {
-    let Frame::Answer { answer } = frame else {
+    let Some(answer) = reply_in(frame) else {
         return not_found(alloc, &explaining);
     };
     match answer.reply() {
@@ -255,8 +256,8 @@ pub(crate) fn end_explained(
 ) -> Result<Next, AllocError>
     ensures { IfOk result Shows }
 {
-    match frame {
-        Frame::Answer { answer } => Ok(Next::Tell(page(alloc, asked, answer, EXPLAINED, pairs)?)),
-        _ => Ok(Next::Tell(problem(alloc, 503, "the node failed", pairs)?)),
+    match reply_in(frame) {
+        Some(answer) => Ok(Next::Tell(page(alloc, asked, answer, EXPLAINED, pairs)?)),
+        None => Ok(Next::Tell(problem(alloc, 503, "the node failed", pairs)?)),
     }
 }

@@ -4,6 +4,7 @@ ghost use Rattle.std.specs.Prelude.{IfOk};
 ghost use Rattle.ts_site.specs.Requests.{Shows};
 
 use crate::board::{Board, Summary};
+use crate::frames::{prefix_in, reply_in};
 use crate::listing::rows_question;
 use crate::metrics::metrics_text;
 use crate::next::{Next, Waits, ask};
@@ -45,16 +46,16 @@ fn ask_rows(alloc: Global, gauging: Gauging) -> Result<Next, AllocError>
 pub(crate) fn go_on_metrics(alloc: Global, frame: &Frame, board: &Board) -> Result<Next, AllocError>
     ensures { IfOk result Shows }
 {
-    let Frame::Prefix { prefix } = frame else {
+    let Some(prefix) = prefix_in(frame) else {
         return Ok(Next::Tell(node_failed_line(alloc)?));
     };
     match &board.summary {
-        Some(summary) if summary.k == *prefix => metrics(alloc, board, *prefix),
+        Some(summary) if summary.k == prefix => metrics(alloc, board, prefix),
         _ => ask_rows(
             alloc,
             Gauging {
                 from: 0,
-                summary: Summary::nothing(*prefix),
+                summary: Summary::nothing(prefix),
             },
         ),
     }
@@ -103,7 +104,7 @@ pub(crate) fn go_on_gauge(
 ) -> Result<Next, AllocError>
     ensures { IfOk result Shows }
 {
-    let Frame::Answer { answer } = frame else {
+    let Some(answer) = reply_in(frame) else {
         return Ok(Next::Tell(node_failed_line(alloc)?));
     };
     match answer.reply() {

@@ -35,6 +35,7 @@ mod board;
 mod commanding;
 mod explaining;
 mod face;
+mod frames;
 mod gauging;
 mod laws;
 mod listing;

@@ -3,10 +3,12 @@
 ghost use Rattle.std.specs.Prelude.{◌≡◌, IfOk, MatchOption, map};
 ghost use Rattle.ts_json.specs.Members.{named_value};
 ghost use Rattle.ts_api.specs.Response.{IsError};
+ghost use Rattle.ts_site.specs.Frames.{reply_in};
 ghost use Rattle.ts_site.specs.Listings.{AreMembers, BeginsRows, HasNoRow, TellsPage, TellsRows};
 ghost use Rattle.ts_site.specs.Steps.{Answers};
 ghost use Rattle.ts_site.specs.Listings.{head_of, not_yet_words, rows_question};
 
+use crate::frames::reply_in;
 use crate::next::{Next, RowsAsked, Waits, ask};
 use crate::refusing::{error, fault_error, node_failed};
 use crate::status::count;
@@ -129,9 +131,9 @@ fn not_yet(alloc: Global, prefix: u32) -> Result<Response, AllocError>
 
 /// Goes on once the node has answered.
 pub(crate) fn end_rows(alloc: Global, asked: RowsAsked, frame: &Frame) -> Result<Next, AllocError>
-    ensures { IfOk result (Answers (TellsRows asked frame.now)) }
+    ensures { IfOk result (Answers (TellsRows asked (reply_in frame.now))) }
 {
-    let Frame::Answer { answer } = frame else {
+    let Some(answer) = reply_in(frame) else {
         return Ok(Next::Tell(node_failed(alloc)?));
     };
     let response = match answer.reply() {

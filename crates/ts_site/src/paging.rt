@@ -4,6 +4,7 @@ ghost use Rattle.std.specs.Prelude.{IfOk};
 ghost use Rattle.ts_site.specs.Requests.{Shows};
 
 use crate::board::Board;
+use crate::frames::{prefix_in, reply_in};
 use crate::listing::rows_question;
 use crate::next::{HomeAsked, Next, Waits, ask};
 use crate::refusing::problem;
@@ -59,12 +60,12 @@ pub(crate) fn begin_home(alloc: Global, request: &Request) -> Result<Next, Alloc
 pub(crate) fn go_on_home(alloc: Global, asked: HomeAsked, frame: &Frame) -> Result<Next, AllocError>
     ensures { IfOk result Shows }
 {
-    let Frame::Prefix { prefix } = frame else {
+    let Some(prefix) = prefix_in(frame) else {
         return Ok(Next::Tell(problem(alloc, 503, "the node failed", &[])?));
     };
     let question = rows_question(alloc, false, asked.k, asked.from)?;
     let frame = question_frame(alloc, &question)?;
-    Ok(ask(Waits::HomeRows(asked, *prefix), frame))
+    Ok(ask(Waits::HomeRows(asked, prefix), frame))
 }
 
 /// The fields of rows; of octets that are no row, nothing.
@@ -110,7 +111,7 @@ pub(crate) fn end_home(
 ) -> Result<Next, AllocError>
     ensures { IfOk result Shows }
 {
-    let Frame::Answer { answer } = frame else {
+    let Some(answer) = reply_in(frame) else {
         return Ok(Next::Tell(problem(alloc, 503, "the node failed", &[])?));
     };
     let response = match answer.reply() {

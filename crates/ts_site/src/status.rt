@@ -3,10 +3,12 @@
 ghost use Rattle.std.specs.Prelude.{◌≡◌, IfOk, map};
 ghost use Rattle.ts_json.specs.Answer.{whole};
 ghost use Rattle.ts_json.specs.Members.{named_value};
+ghost use Rattle.ts_site.specs.Frames.{prefix_in};
 ghost use Rattle.ts_site.specs.Statuses.{EndsPrefix, TellsHealth, TellsStatus, status_members};
 ghost use Rattle.ts_site.specs.Steps.{Answers, AsksNode};
 ghost use Rattle.ts_wire.specs.declared.frame.Frame.TheVariants.{Status};
 
+use crate::frames::prefix_in;
 use crate::next::{Next, Waits, ask};
 use crate::refusing::{node_failed, node_failed_line};
 use std::alloc::{AllocError, Global};
@@ -24,24 +26,24 @@ pub(crate) fn ask_status(alloc: Global, waits: Waits) -> Result<Next, AllocError
 
 /// Whether the node has answered.
 pub(crate) fn end_health(alloc: Global, frame: &Frame) -> Result<Next, AllocError>
-    ensures { IfOk result (Answers (TellsHealth frame.now)) }
+    ensures { IfOk result (Answers (TellsHealth (prefix_in frame.now))) }
 {
-    match frame {
-        Frame::Prefix { .. } => Ok(Next::Tell(Response::line(alloc, 200, "ok")?)),
-        _ => Ok(Next::Tell(node_failed_line(alloc)?)),
+    match prefix_in(frame) {
+        Some(_) => Ok(Next::Tell(Response::line(alloc, 200, "ok")?)),
+        None => Ok(Next::Tell(node_failed_line(alloc)?)),
     }
 }
 
 /// The node knows so many commands: it is asked which node it is.
 pub(crate) fn end_prefix(alloc: Global, frame: &Frame) -> Result<Next, AllocError>
-    ensures { IfOk result (EndsPrefix frame.now) }
+    ensures { IfOk result (EndsPrefix (prefix_in frame.now)) }
 {
-    match frame {
-        Frame::Prefix { prefix } => {
+    match prefix_in(frame) {
+        Some(prefix) => {
             let frame = identify_frame(alloc)?;
-            Ok(ask(Waits::Identity(*prefix), frame))
+            Ok(ask(Waits::Identity(prefix), frame))
         }
-        _ => Ok(Next::Tell(node_failed(alloc)?)),
+        None => Ok(Next::Tell(node_failed(alloc)?)),
     }
 }
 

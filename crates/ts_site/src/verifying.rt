@@ -2,11 +2,13 @@
 
 ghost use Rattle.std.specs.Prelude.{◌≡◌, IfOk, Ok};
 ghost use Rattle.ts_render.specs.Replies.{valid_in};
+ghost use Rattle.ts_site.specs.Frames.{reply_in};
 ghost use Rattle.ts_site.specs.Steps.{Answers};
 ghost use Rattle.ts_site.specs.Verdicts.{AsksQuestion, BeginsVerdict, IsVerdict, TellsVerdict};
 ghost use Rattle.ts_site.specs.Verdicts.{keeps_of, verdict_status};
 
 use crate::board::Board;
+use crate::frames::reply_in;
 use crate::next::{Next, Waits, ask};
 use crate::refusing::{no_question, node_failed};
 use std::alloc::{AllocError, Global};
@@ -88,13 +90,13 @@ pub(crate) fn end_verdict(
     frame: &Frame,
     board: &mut Board,
 ) -> Result<Next, AllocError>
-    ensures { IfOk result (Answers (TellsVerdict asked.now route frame.now)) }
+    ensures { IfOk result (Answers (TellsVerdict asked.now route (reply_in frame.now))) }
 {
-    match frame {
-        Frame::Answer { answer } => {
+    match reply_in(frame) {
+        Some(answer) => {
             board.judged(answer.reply());
             Ok(Next::Tell(verdict(alloc, asked, route, answer)?))
         }
-        _ => Ok(Next::Tell(node_failed(alloc)?)),
+        None => Ok(Next::Tell(node_failed(alloc)?)),
     }
 }
