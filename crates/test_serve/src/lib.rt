@@ -5,6 +5,8 @@
 #![tactic(auto)]
 
 #[cfg(test)]
+mod carry_tests;
+#[cfg(test)]
 mod link_tests;
 #[cfg(test)]
 mod numbers;

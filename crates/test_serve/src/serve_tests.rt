@@ -1,6 +1,6 @@
-//! What no clause says: the octets of the formats, streams that fail, and what is carried.
+//! What no clause says: the octets of the formats, and streams that fail.
 
-ghost use Rattle.std.specs.Prelude.{◌≤◌, ◌<◌, All, IfOk, length};
+ghost use Rattle.std.specs.Prelude.{◌≤◌, IfOk};
 ghost use Rattle.ts_disk.specs.Memory.{state_of};
 ghost use Rattle.ts_node.specs.Ahead.{IsAhead};
 ghost use Rattle.ts_node.specs.Node.{IsSound};
@@ -17,12 +17,12 @@ use ts_disk::MemDisk;
 use ts_node::{Machine, Node};
 use ts_record::Record;
 use ts_serve::{
-    AnswerFault, MAX_WAITING, Peer, READ_LIMIT, ServeFault, Server, ServerPeer, TcpPeer, carry,
-    connect, is_request, listen, refusal, serve, set_up, write_octets,
+    AnswerFault, MAX_WAITING, Peer, READ_LIMIT, ServeFault, Server, TcpPeer, connect, is_request,
+    listen, refusal, serve, set_up, write_octets,
 };
 use ts_wire::{Feed, Frame, FrameFault};
 
-type Served = Server<MemDisk, Applies>;
+pub(crate) type Served = Server<MemDisk, Applies>;
 
 const STATUS: &[u8] = b"\x00\x00\x00\x02\x02\x15";
 
@@ -35,17 +35,18 @@ const GIVEN: &[u8] =
     b"\x00\x00\x00\x10\x02\x01\x01\x01\x00\x00\x00\x01\x00\x00\x00\x00\x00\x00\x00\x11\x00\x00\x00\x06\x02\x20\x00\x00\x00\x01";
 
 /// The Noop of the id 01.
-const SUBMIT: &[u8] =
+pub(crate) const SUBMIT: &[u8] =
     b"\x00\x00\x00\x17\x02\x10\x00\x00\x00\x11\x00\x00\x00\x00\x00\x00\x00\x00\x00\x00\x00\x00\x00\x00\x00\x01\x06";
 
-const OUTCOME: &[u8] =
+pub(crate) const OUTCOME: &[u8] =
     b"\x00\x00\x00\x12\x02\x13\x00\x00\x00\x00\x00\x00\x00\x00\x00\x00\x00\x00\x00\x00\x00\x01";
 
-const STARTED: &[u8] = b"\x00\x00\x00\x0e\x02\x21\x00\x00\x00\x01\x00\x00\x00\x00\x00\x00\x00\x11";
+pub(crate) const STARTED: &[u8] =
+    b"\x00\x00\x00\x0e\x02\x21\x00\x00\x00\x01\x00\x00\x00\x00\x00\x00\x00\x11";
 
-const SETTLED: &[u8] = b"\x00\x00\x00\x07\x02\x22\x00\x00\x00\x01\x00";
+pub(crate) const SETTLED: &[u8] = b"\x00\x00\x00\x07\x02\x22\x00\x00\x00\x01\x00";
 
-const UNKNOWN: &[u8] = b"\x00\x00\x00\x02\x02\x24";
+pub(crate) const UNKNOWN: &[u8] = b"\x00\x00\x00\x02\x02\x24";
 
 /// A question about the search for a leaf of no octets, and one over 5 commands.
 const QUESTION: &[u8] =
@@ -103,7 +104,7 @@ const FAULTS: &[(&[u8], u8)] = &[
 ];
 
 /// A server of a node on new disks, of which the first lets so many calls pass.
-fn server(alloc: Global, me: u8, nodes: u8, passing: u64) -> Result<Served, AllocError>
+pub(crate) fn server(alloc: Global, me: u8, nodes: u8, passing: u64) -> Result<Served, AllocError>
     requires from { 1 ≤ me }
     requires to { me ≤ nodes }
     requires few { nodes ≤ 9 }
@@ -144,7 +145,7 @@ fn answers_of(
 
 /// Whether memory was refused: to the server or to what it writes to, or a frame says that the node
 /// has none or that its device failed, which a disk in memory does where it has none.
-fn was_refused(said: &[u8], end: Result<(), ServeFault>) -> bool {
+pub(crate) fn was_refused(said: &[u8], end: Result<(), ServeFault>) -> bool {
     matches!(end, Err(ServeFault::Memory | ServeFault::Write))
         || said
             .windows(7)
@@ -497,137 +498,12 @@ fn a_failed_disk_is_answered(rt: HostRuntime) -> Result<(), Fail> {
     Ok(())
 }
 
-/// A peer around a server on new disks. An error where the server could not be made.
-fn peer(alloc: Global, me: u8, nodes: u8) -> Result<ServerPeer<MemDisk, Applies>, AllocError>
-    requires from { 1 ≤ me }
-    requires to { me ≤ nodes }
-    requires few { nodes ≤ 9 }
-    ensures { IfOk result (λ peer. IsSound state_of octets_of
-        ⟦<Applies as Machine<Command>>⟧.commands peer.server.node) }
-{
-    Ok(ServerPeer::new(alloc, server(alloc, me, nodes, u64::MAX)?))
-}
-
-/// What the peer at a place answers. An error where memory was refused, without which it fails not.
-fn answer_of<P: Peer>(peers: &mut [P], place: usize, stream: &[u8]) -> Result<Vec<u8>, AllocError>
-    requires ready { All P.is_ready peers.old }
-    requires within { place < length peers.old }
-    ensures { All P.is_ready peers.new }
-{
-    match peers[place].exchange(stream) {
-        Ok(said) if !was_refused(&said, Ok(())) => Ok(said),
-        _ => Err(AllocError),
-    }
-}
-
-/// How many messages are delivered in so many rounds. An error where they are fewer than wanted, as
-/// where memory is refused to an exchange.
-fn count_carried<P: Peer>(
-    alloc: Global,
-    peers: &mut [P],
-    rounds: u32,
-    wanted: u64,
-) -> Result<u64, AllocError>
-    requires { All P.is_ready peers.old }
-    ensures { All P.is_ready peers.new }
-{
-    let count = carry(alloc, peers, rounds)?;
-    if count < wanted {
-        Err(AllocError)
-    } else {
-        Ok(count)
-    }
-}
-
-/// Whether the peer at a place knows what became of the command. An error where it does not, as
-/// where memory was refused to a node that a message was delivered to.
-fn is_settled<P: Peer>(peers: &mut [P], place: usize) -> Result<bool, AllocError>
-    requires ready { All P.is_ready peers.old }
-    requires within { place < length peers.old }
-    ensures { All P.is_ready peers.new }
-{
-    let said = answer_of(peers, place, OUTCOME)?;
-    if said.as_slice() == UNKNOWN {
-        Err(AllocError)
-    } else {
-        Ok(said.as_slice() == SETTLED)
-    }
-}
-
-/// Whether a command is settled by one node in four rounds, and not in three.
-fn settles_alone<P: Peer>(alloc: Global, peers: &mut [P; 1]) -> Result<bool, AllocError>
-    requires { All P.is_ready peers.old }
-{
-    let is_started = answer_of(peers, 0, SUBMIT)?.as_slice() == STARTED;
-    let count = count_carried(alloc, peers, 3, 3)?;
-    let is_unknown = answer_of(peers, 0, OUTCOME)?.as_slice() == UNKNOWN;
-    let last = count_carried(alloc, peers, 1, 1)?;
-    Ok(is_started && count == 3 && is_unknown && last == 1 && is_settled(peers, 0)?)
-}
-
-/// Whether a new node alone settles a command so.
-fn one_settles(alloc: Global) -> Result<bool, AllocError> {
-    settles_alone(alloc, &mut [peer(alloc, 1, 1)?])
-}
-
-#[test]
-fn one_node_settles_in_four_rounds(rt: HostRuntime) -> Result<(), Fail> {
-    assert!(rt; one_settles(rt.alloc())?);
-    Ok(())
-}
-
-/// Whether a command that the first of three nodes is given is settled by the two others.
-fn settle<P: Peer>(alloc: Global, peers: &mut [P; 3]) -> Result<bool, AllocError>
-    requires { All P.is_ready peers.old }
-{
-    let is_started = answer_of(peers, 0, SUBMIT)?.as_slice() == STARTED;
-    // Three of Prepare, three of Promise, three of Accept, and three of Accepted from each.
-    let count = count_carried(alloc, peers, 5, 18)?;
-    let is_settled_by_second = is_settled(peers, 1)?;
-    Ok(is_started && count == 18 && is_settled_by_second && is_settled(peers, 2)?)
-}
-
-/// Whether three new nodes settle a command so.
-fn three_settle(alloc: Global) -> Result<bool, AllocError> {
-    let mut peers = [peer(alloc, 1, 3)?, peer(alloc, 2, 3)?, peer(alloc, 3, 3)?];
-    settle(alloc, &mut peers)
-}
-
-#[test]
-fn three_nodes_settle(rt: HostRuntime) -> Result<(), Fail> {
-    assert!(rt; three_settle(rt.alloc())?);
-    Ok(())
-}
-
-/// How many messages of one node of three are delivered behind a command; `None` where that is not
-/// taken.
-fn delivered_alone<P: Peer>(alloc: Global, peers: &mut [P; 1]) -> Result<Option<u64>, AllocError>
-    requires { All P.is_ready peers.old }
-{
-    if answer_of(peers, 0, SUBMIT)?.as_slice() != STARTED {
-        return Ok(None);
-    }
-    // Prepare and Promise of node 1 with itself; no majority answers.
-    Ok(Some(count_carried(alloc, peers, 5, 2)?))
-}
-
-/// How many are of a new node.
-fn one_of_three_delivers(alloc: Global) -> Result<Option<u64>, AllocError> {
-    delivered_alone(alloc, &mut [peer(alloc, 1, 3)?])
-}
-
-#[test]
-fn a_message_without_a_peer_does_not_count(rt: HostRuntime) -> Result<(), Fail> {
-    assert_eq!(rt; one_of_three_delivers(rt.alloc())?, Some(2));
-    Ok(())
-}
-
 /// How a server ends that serves one connection.
 fn listen_once(
     alloc: Global,
     listener: &TcpListener,
 ) -> Result<Result<(), ServeFault>, AllocError> {
-    let mut server = peer(alloc, 1, 1)?.close();
+    let mut server = server(alloc, 1, 1, u64::MAX)?;
     let end = listen(&mut server, listener, 1);
     drop(server);
     Ok(end)
