@@ -5,8 +5,7 @@ use std::fs;
 use std::rt::Files;
 use std::test::Fail;
 use ts_command::Command;
-use ts_offline::{RecordLock, TaskFault, read_file};
-use ts_offline::{format_files, migrate_files, open_disks};
+use ts_offline::{RecordLock, TaskFault, format_files, migrate_files, open_disks, read_file};
 use ts_record::Record;
 use ts_synod::Fact;
 

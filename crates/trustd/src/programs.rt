@@ -16,8 +16,9 @@ use ts_loop::{LoopFault, serve_all};
 use ts_memo::{MemoCheck, ServedCheck};
 use ts_meter::{Meter, MeteredDisk};
 use ts_node::Node;
-use ts_offline::{MAX_TABLE, RecordLock, TaskFault, read_within};
-use ts_offline::{format_files, migrate_files, open_disks};
+use ts_offline::{
+    MAX_TABLE, RecordLock, TaskFault, format_files, migrate_files, open_disks, read_within,
+};
 use ts_peers::Group;
 use ts_serve::Server;
 use ts_sig::TableCheck;
