@@ -2,25 +2,25 @@
 //!
 //! ```text
 //! // certificate 2 of 3, CN=www.example.com, expired after 2026-01-31 12:00:00 UTC (RFC 5280 ..)
-//! let line = reason_line(alloc, &chain, 2, &Reason::Expired)?;
+//! let line = reason_line(alloc, 2, 3, cert, &Reason::Expired)?;
 //! ```
 //!
 //! - [`section`]: the RFC and its section that a reason is of (`specs/Sections`).
-//! - [`reason_line`]: a line of printable characters of ASCII on a certificate of a chain and a
-//!   reason. [`certificate_line`]: such a line up to the certificate's subject, for who goes on
-//!   otherwise, as by [`write_no_anchor`].
+//! - [`certificate_line`]: a line that begins with a certificate of a chain: its place, of how many,
+//!   and its subject. [`reason_line`]: such a line, words that say why the certificate is not good,
+//!   and the section of the reason. [`write_no_anchor`]: that its issuer is no trust anchor
+//!   (`specs/Lines`).
 //!
 //! Out of memory is the only error.
 //!
 //! # Not promised
 //!
-//! Neither proved nor tested but for some lines: which words a line has.
+//! Which words say why, but that they are printable: some are tested.
 #![tactic(auto)]
 
 mod lines;
 mod sections;
 mod words;
 
-pub use lines::{certificate_line, reason_line};
+pub use lines::{certificate_line, reason_line, write_no_anchor};
 pub use sections::section;
-pub use words::write_no_anchor;

@@ -1,4 +1,4 @@
-//! What is wrong with a certificate, in plain words, with the section of the standard.
+//! What is wrong with a certificate, in plain words.
 
 use std::alloc::{AllocError, Global};
 use ts_cert::Cert;
@@ -46,8 +46,7 @@ fn revocation_words(code: u8) -> &'static str {
 /// Writes the words for a certificate that is revoked.
 fn write_revoked(line: &mut Line, code: u8) -> Result<(), AllocError> {
     line.text(b"is revoked: ")?;
-    line.text(revocation_words(code).as_bytes())?;
-    line.text(b" (RFC 5280 6.1.3 (a)(3), 5.3.1)")
+    line.text(revocation_words(code).as_bytes())
 }
 
 /// Writes the words for a moment before or after the validity of a certificate.
@@ -58,85 +57,54 @@ fn write_validity(
     moment: Moment,
 ) -> Result<(), AllocError> {
     line.text(words.as_bytes())?;
-    write_moment(alloc, line, moment)?;
-    line.text(b" (RFC 5280 6.1.3 (a)(2))")
+    write_moment(alloc, line, moment)
 }
 
 /// Writes the words for an extension that is not processed.
 fn write_extension(alloc: Global, line: &mut Line, content: &[u8]) -> Result<(), AllocError> {
     line.text(b"has the critical extension ")?;
     write_oid(alloc, line, content)?;
-    line.text(b", which is not processed (RFC 5280 6.1.4 (o), 6.1.5 (f))")
+    line.text(b", which is not processed")
 }
 
 /// Writes the words for a certificate that the key above it did not sign, or whose signature is by
 /// an algorithm that is not checked here.
 fn write_signature(alloc: Global, line: &mut Line, cert: &Cert<'_>) -> Result<(), AllocError> {
     if algorithm_named(cert.signature_algorithm().whole).is_none() {
-        return line.text(
-            b"is signed by an algorithm that is not checked here (docs/SIGNATURES.md)",
-        );
+        return line.text(b"is signed by an algorithm that is not checked here");
     }
     line.text(b"is not signed by the key of its issuer ")?;
-    write_name(alloc, line, cert.issuer())?;
-    line.text(b" (RFC 5280 6.1.3 (a)(1))")
+    write_name(alloc, line, cert.issuer())
 }
 
 /// Writes the words for a certificate whose issuer is not the subject above it.
 fn write_issuer(alloc: Global, line: &mut Line, cert: &Cert<'_>) -> Result<(), AllocError> {
     line.text(b"has the issuer ")?;
     write_name(alloc, line, cert.issuer())?;
-    line.text(b", which is not the subject above it (RFC 5280 6.1.3 (a)(4))")
-}
-
-/// Writes the words for a certificate whose issuer is no trust anchor.
-///
-/// # Errors
-///
-/// Out of memory.
-pub fn write_no_anchor(alloc: Global, line: &mut Line, cert: &Cert<'_>) -> Result<(), AllocError> {
-    line.text(b"has the issuer ")?;
-    write_name(alloc, line, cert.issuer())?;
-    line.text(b", which is no trust anchor (RFC 5280 6.1.3 (a)(1), (a)(4))")
+    line.text(b", which is not the subject above it")
 }
 
 /// The words for a reason that says nothing else.
 fn words_of(reason: &Reason<OidRef<'_>>) -> &'static str {
     match reason {
-        Reason::AnchorPurpose => {
-            "is under a trust anchor that is not trusted for this purpose (RFC 5280 6.1.1 (d))"
-        }
-        Reason::Undetermined => {
-            "may be revoked, the CRLs at hand do not tell (RFC 5280 6.1.3 (a)(3))"
-        }
-        Reason::UnsupportedConstraint => {
-            "has a name whose form is constrained and not processed (RFC 5280 4.2.1.10)"
-        }
-        Reason::NotPermitted => {
-            "has a name that lies in no permitted subtree (RFC 5280 6.1.3 (b))"
-        }
-        Reason::Excluded => "has a name that lies in an excluded subtree (RFC 5280 6.1.3 (c))",
-        Reason::PolicyRequired => {
-            "has no valid policy, and one is required (RFC 5280 6.1.3 (f))"
-        }
-        Reason::MapsAny => "maps anyPolicy to a policy or back (RFC 5280 6.1.4 (a))",
-        Reason::NotCa => "issued another one and is not of a CA (RFC 5280 6.1.4 (k))",
-        Reason::PathLength => {
-            "is followed by more certificates than a path length allows (RFC 5280 6.1.4 (l))"
-        }
-        Reason::KeyUsage => {
-            "issued another one and its key is not for that (RFC 5280 6.1.4 (n))"
-        }
-        Reason::FinalPolicy => {
-            "has none of the policies that are asked for (RFC 5280 6.1.5 (g))"
-        }
-        Reason::Purpose => "is not for the purpose that is asked for (RFC 5280 4.2.1.12)",
+        Reason::AnchorPurpose => "is under a trust anchor that is not trusted for this purpose",
+        Reason::Undetermined => "may be revoked, the CRLs at hand do not tell",
+        Reason::UnsupportedConstraint => "has a name whose form is constrained and not processed",
+        Reason::NotPermitted => "has a name that lies in no permitted subtree",
+        Reason::Excluded => "has a name that lies in an excluded subtree",
+        Reason::PolicyRequired => "has no valid policy, and one is required",
+        Reason::MapsAny => "maps anyPolicy to a policy or back",
+        Reason::NotCa => "issued another one and is not of a CA",
+        Reason::PathLength => "is followed by more certificates than a path length allows",
+        Reason::KeyUsage => "issued another one and its key is not for that",
+        Reason::FinalPolicy => "has none of the policies that are asked for",
+        Reason::Purpose => "is not for the purpose that is asked for",
         _ => "",
     }
 }
 
 /// Writes why a certificate is not good.
-pub(crate) fn write_reason(
+fn write_reason(
     alloc: Global,
     line: &mut Line,
     cert: &Cert<'_>,
@@ -161,4 +129,15 @@ pub(crate) fn write_reason(
         Reason::CriticalExtension(oid) => write_extension(alloc, line, oid.content),
         other => line.text(words_of(other).as_bytes()),
     }
+}
+
+/// Why a certificate is not good.
+pub(crate) fn reason_words(
+    alloc: Global,
+    cert: &Cert<'_>,
+    reason: &Reason<OidRef<'_>>,
+) -> Result<Line, AllocError> {
+    let mut line = Line::new(alloc);
+    write_reason(alloc, &mut line, cert, reason)?;
+    Ok(line)
 }

@@ -1,5 +1,5 @@
 -- What a verdict without a node is, and how it is printed.
-use Rattle.std.specs.Prelude.{◌≡◌, ℕ, Bool, true, false, List, length, Option}
+use Rattle.std.specs.Prelude.{◌≡◌, ℕ, Bool, true, false, List, Option}
 use Rattle.ts_cert.specs.Certificate.{Certificate}
 use Rattle.ts_host.specs.declared.host.Host.{Host}
 use Rattle.ts_path.specs.Asked.{TrustAnchor, ValidationInputs}
@@ -12,9 +12,8 @@ use Rattle.ts_judge.specs.declared.judging.Judgement.{Judgement}
 
 -- two lines, or one JSON object on a line of its own
 abbrev pub IsPrinted : Bool → Report → List ℕ → Type 0
-IsPrinted false report text = IsText (length report.chain.items) report.finding text
-IsPrinted true report text = (object : List ℕ)
-    × IsJson (length report.chain.items) report.finding report.has_lists object
+IsPrinted false report text = IsText report text
+IsPrinted true report text = (object : List ℕ) × IsJson report object
     × (text ≡ with_line_feed object)
 
 -- the text says the report on these certificates, and the flag whether the chain is valid

@@ -1,3 +1,4 @@
+pub mod Explained
 pub mod Text
 pub mod Fields
 pub mod Given

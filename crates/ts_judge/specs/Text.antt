@@ -1,22 +1,19 @@
 -- The text of a report.
-use Rattle.std.specs.Prelude.{◌≡◌, ℕ, true, List, ◌++◌, map, codes}
+use Rattle.std.specs.Prelude.{◌≡◌, ℕ, true, List, ◌++◌, map, length, codes}
 use Rattle.std.specs.Fmt.{decimal}
 use Rattle.std.specs.List.{flat_map, list_all}
-use Rattle.ts_der.specs.Dotted.{dotted_text}
-use Rattle.ts_der.specs.ObjectIdentifier.{arcs}
 use Rattle.ts_reason.specs.Printed.{reason_text}
 use Rattle.ts_reason.specs.View.{reason_in}
 use Rattle.ts_line.specs.Lines.{with_line_feed, is_printable, printable}
+use Rattle.ts_line.specs.Names.{dotted_form}
 use Rattle.ts_verify.specs.declared.report.Finding.{Finding}
 use Rattle.ts_verify.specs.declared.report.Finding.TheVariants.{Valid, Invalid, OtherHost}
-
--- an object identifier in dotted form, by its content octets
-abbrev pub oid_text : List ℕ → List ℕ
-oid_text content = dotted_text (arcs content)
+use Rattle.ts_verify.specs.declared.report.Report.{Report}
+use Rattle.ts_judge.specs.Explained.{Explains, place_in}
 
 -- policies, each behind a space
 abbrev pub policies_text : List (List ℕ) → List ℕ
-policies_text policies = flat_map (λ policy. codes " " ++ oid_text policy) policies
+policies_text policies = flat_map (λ policy. codes " " ++ dotted_form policy) policies
 
 -- the words of a finding on a chain of this length: `valid` and the policies, or `invalid`, the
 -- place of a certificate and the reason. `Host` is that of a leaf which is for another host
@@ -27,8 +24,10 @@ words_of count (Invalid position reason) =
     codes "invalid " ++ decimal position ++ codes " " ++ reason_text (reason_in reason)
 words_of count OtherHost = codes "invalid " ++ decimal count ++ codes " Host"
 
--- two lines of printable characters, of which the first has the words
-pub record IsText (count : ℕ) (finding : Finding) (text : List ℕ) : Type 0 where
+-- two lines of printable characters: the words, and what they mean
+pub record IsText (report : Report) (text : List ℕ) : Type 0 where
   pub second : List ℕ
-  pub text_is : text ≡ with_line_feed (printable (words_of count finding)) ++ with_line_feed second
+  pub text_is : text ≡ with_line_feed (printable (words_of (length report.chain.items)
+      report.finding)) ++ with_line_feed second
+  pub explains : Explains report (place_in (length report.chain.items) report.finding) second
   pub printable : list_all is_printable second ≡ true

@@ -1,11 +1,13 @@
 //! A report as one JSON object.
 
-ghost use Rattle.std.specs.Prelude.{◌≡◌, IfOk, IfSome, length, map, option_map, string_bytes};
+ghost use Rattle.std.specs.Prelude.{◌≡◌, IfOk, Some, length, map, option_map, string_bytes};
 ghost use Rattle.ts_reason.specs.Printed.{reason_text};
 ghost use Rattle.ts_reason.specs.View.{reason_in as said_in};
-ghost use Rattle.ts_judge.specs.Fields.{AreFields, IsJson, IsPrintable, is_valid, place_in};
-ghost use Rattle.ts_judge.specs.Fields.{policies_in, reason_in, section_in};
-ghost use Rattle.ts_judge.specs.Text.{oid_text};
+ghost use Rattle.ts_judge.specs.Explained.{Explains, IsSubject, place_in};
+ghost use Rattle.ts_judge.specs.Fields.{AreFields, IsJson, is_valid, policies_in, reason_in};
+ghost use Rattle.ts_judge.specs.Fields.{section_in};
+ghost use Rattle.ts_line.specs.Names.{dotted_form, name_text};
+ghost use Rattle.ts_name.specs.NameView.{rdns_in};
 
 use crate::printed::{dotted_form, explanation};
 use std::alloc::{AllocError, Global};
@@ -13,39 +15,17 @@ use ts_cert::Cert;
 use ts_der::OidRef;
 use ts_explain::section;
 use ts_json::{VerdictFields, object_text};
-use ts_line::{Line, write_name};
-use ts_name::Name;
+use ts_line::name_text;
 use ts_reason::Reason;
 use ts_verify::{Finding, Report};
 
-/// The text of a line.
-fn text_of(alloc: Global, line: &Line) -> Result<String, AllocError>
-    ensures { IfOk result (λ text. IsPrintable (string_bytes text)) }
-{
-    match str::from_utf8(line.as_slice()) {
-        Ok(text) => String::from_str(alloc, text),
-        // Printable characters of ASCII are UTF-8.
-        Err(_) => Err(AllocError),
-    }
-}
-
-/// A distinguished name as a text.
-fn name_text(alloc: Global, name: Name<'_>) -> Result<String, AllocError>
-    ensures { IfOk result (λ text. IsPrintable (string_bytes text)) }
-{
-    let mut line = Line::new(alloc);
-    write_name(alloc, &mut line, name)?;
-    let text = text_of(alloc, &line)?;
-    Ok(text)
-}
-
 /// The second line of the report.
 fn explanation_text(alloc: Global, report: &Report<'_>) -> Result<String, AllocError>
-    ensures { IfOk result (λ text. IsPrintable (string_bytes text)) }
+    ensures { IfOk result (λ text. Explains report.now
+        (place_in (length report.now.chain.items) report.now.finding) (string_bytes text)) }
 {
     let line = explanation(alloc, report)?;
-    let text = text_of(alloc, &line)?;
-    Ok(text)
+    line.to_text()
 }
 
 /// Whether a chain was found valid, and its leaf is for the host that is asked.
@@ -96,10 +76,15 @@ fn section_of(alloc: Global, finding: &Finding<'_>) -> Result<Option<String>, Al
 }
 
 /// The subject of the certificate at a place, which counts from 1, if there is one.
-fn subject_at(alloc: Global, chain: &[Cert<'_>], place: usize) -> Result<Option<String>, AllocError>
-    ensures { IfOk result (λ text. IfSome text (λ t. IsPrintable (string_bytes t))) }
+fn subject_at(
+    alloc: Global,
+    report: &Report<'_>,
+    place: usize,
+) -> Result<Option<String>, AllocError>
+    ensures { IfOk result (λ text. IsSubject report.now (Some place)
+        (option_map string_bytes text)) }
 {
-    match chain.get(place.saturating_sub(1)) {
+    match report.chain.get(place.saturating_sub(1)) {
         Some(cert) => Ok(Some(name_text(alloc, cert.subject())?)),
         None => Ok(None),
     }
@@ -107,21 +92,21 @@ fn subject_at(alloc: Global, chain: &[Cert<'_>], place: usize) -> Result<Option<
 
 /// The subject of the certificate that is not good.
 fn subject_of(alloc: Global, report: &Report<'_>) -> Result<Option<String>, AllocError>
-    ensures { IfOk result (λ text. IfSome text (λ t. IsPrintable (string_bytes t))) }
+    ensures { IfOk result (λ text. IsSubject report.now
+        (place_in (length report.now.chain.items) report.now.finding)
+        (option_map string_bytes text)) }
 {
     match &report.finding {
         Finding::Valid(_) => Ok(None),
-        Finding::Invalid { position, .. } => {
-            subject_at(alloc, &report.chain, *position as usize)
-        }
-        Finding::OtherHost => subject_at(alloc, &report.chain, report.chain.len()),
+        Finding::Invalid { position, .. } => subject_at(alloc, report, *position as usize),
+        Finding::OtherHost => subject_at(alloc, report, report.chain.len()),
     }
 }
 
 /// Object identifiers in dotted form.
 fn all_dotted(alloc: Global, oids: &[OidRef<'_>]) -> Result<Vec<String>, AllocError>
     ensures { IfOk result (λ texts. map string_bytes texts.items
-        ≡ map oid_text (map (λ p. p.content.now) oids.now)) }
+        ≡ map dotted_form (map (λ p. p.content.now) oids.now)) }
 {
     let mut texts = Vec::new(alloc);
     for oid in oids {
@@ -142,8 +127,7 @@ fn policies_of(alloc: Global, finding: &Finding<'_>) -> Result<Vec<String>, Allo
 
 /// The fields of a report.
 fn fields_of(alloc: Global, report: &Report<'_>) -> Result<VerdictFields, AllocError>
-    ensures { IfOk result (AreFields (length report.now.chain.items) report.now.finding
-        report.now.has_lists) }
+    ensures { IfOk result (AreFields report.now) }
 {
     Ok(VerdictFields {
         valid: is_valid(&report.finding),
@@ -160,13 +144,8 @@ fn fields_of(alloc: Global, report: &Report<'_>) -> Result<VerdictFields, AllocE
 }
 
 /// A report as one JSON object, without spaces and without the end of a line.
-///
-/// # Errors
-///
-/// Out of memory.
-pub fn json(alloc: Global, report: &Report<'_>) -> Result<String, AllocError>
-    ensures { IfOk result (λ text. IsJson (length report.now.chain.items) report.now.finding
-        report.now.has_lists (string_bytes text)) }
+pub(crate) fn json(alloc: Global, report: &Report<'_>) -> Result<String, AllocError>
+    ensures { IfOk result (λ text. IsJson report.now (string_bytes text)) }
 {
     let fields = fields_of(alloc, report)?;
     let text = object_text(alloc, &fields)?;

@@ -8,26 +8,29 @@
 //!
 //! - [`judge`]: the text says the report of `ts_verify` on exactly these certificates, under
 //!   exactly the trust anchors that are certificates, with exactly these CRLs, by signatures that
-//!   are checked here (`IsJudgement`, `asked_of`); two lines (`text`), or a JSON object on a line
-//!   (`json`). It is refused for the first of these (`IsRefusal`): no certificate or more than 33,
-//!   no trust anchor, a certificate that breaks a rule, a CRL that can't be used.
+//!   are checked here (`IsJudgement`, `asked_of`); two lines, or a JSON object on a line. It is
+//!   refused for the first of these (`IsRefusal`): no certificate or more than 33, no trust anchor,
+//!   a certificate that breaks a rule, a CRL that can't be used.
 //! - [`certificates_in`]: the certificates that octets are, one for one; else the first that breaks
 //!   a rule, with its place.
 //! - [`vouch_for`]: what speaks against the octets of a CRL that is to be loaded (`doubt_about`):
 //!   that they are no CRL, else the doubt of `ts_vouch`.
-//! - [`text`]: `IsText` (`specs/Text`): two lines of printable characters of ASCII, each ended by a
-//!   line feed. The first has the words of the finding: `valid` and the policies, or `invalid`, the
-//!   place of a certificate, counted from the anchor's side, and the reason; `Host` is the reason
-//!   of a leaf that is for another host. The second explains it (`ts_explain`).
-//! - [`json`]: `IsJson` (`specs/Fields`): one JSON object, whose fields say the finding: whether it
-//!   is valid, the place, the reason and its section, the policies and whether revocation was
-//!   looked at; besides the names of the certificate and of the anchor, and the second line of the
-//!   text.
+//!
+//! The two lines are printable characters of ASCII, each ended by a line feed (`IsText`,
+//! `specs/Text`). The first has the words of the finding: `valid` and the policies, or `invalid`,
+//! the place of a certificate, counted from the anchor's side, and the reason; `Host` is the reason
+//! of a leaf that is for another host. The second explains it (`specs/Explained`): of a valid chain
+//! how many certificates it has, under which anchor, and whether revocation was looked at; else it
+//! begins with the place and the subject of the certificate that is not good, and words follow.
+//!
+//! The fields of the JSON object say the finding (`IsJson`, `specs/Fields`): whether it is valid,
+//! the place, the reason and its section, the policies, whether revocation was looked at, the
+//! subject of the certificate and the name of the anchor, and the second line of the text.
 //!
 //! # Not promised
 //!
-//! Neither proved nor tested: time; what the second line says, but for some lines; that the names
-//! in the JSON are those of the certificate and the anchor. What `ts_verify` doesn't promise.
+//! Neither proved nor tested: time; which words the second line has behind a certificate, but for
+//! some lines (`ts_explain`). What `ts_verify` doesn't promise.
 #![tactic(auto)]
 
 mod fault;
@@ -39,9 +42,7 @@ mod reading;
 mod vouching;
 
 pub use fault::GivenFault;
-pub use fields::json;
 pub use given::{GivenChain, VerifyOptions};
 pub use judging::{Judgement, judge};
-pub use printed::text;
 pub use reading::certificates_in;
 pub use vouching::{CrlDoubt, vouch_for};

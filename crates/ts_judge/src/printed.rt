@@ -1,13 +1,16 @@
 //! The text of a report.
 
-ghost use Rattle.std.specs.Prelude.{◌≡◌, ◌++◌, ◌∷◌, [], List, ℕ, true, IfOk, OnOk, length, map};
+ghost use Rattle.std.specs.Prelude.{◌≡◌, ◌++◌, ◌∷◌, [], List, ℕ, true, IfOk, OnOk, Some, None};
+ghost use Rattle.std.specs.Prelude.{length, map};
 ghost use Rattle.std.specs.Prelude.{codes, string_bytes};
 ghost use Rattle.std.specs.Fmt.{decimal};
 ghost use Rattle.ts_reason.specs.Printed.{reason_text};
 ghost use Rattle.ts_reason.specs.View.{reason_in};
 ghost use Rattle.std.specs.List.{list_all};
 ghost use Rattle.ts_line.specs.Lines.{with_line_feed, is_printable, printable};
-ghost use Rattle.ts_judge.specs.Text.{IsText, oid_text, policies_text, words_of};
+ghost use Rattle.ts_line.specs.Names.{dotted_form};
+ghost use Rattle.ts_judge.specs.Explained.{Explains, lists_words, place_in};
+ghost use Rattle.ts_judge.specs.Text.{IsText, policies_text, words_of};
 
 use std::alloc::{AllocError, Global};
 use ts_der::OidRef;
@@ -18,7 +21,7 @@ use ts_verify::{Finding, Report};
 
 /// An object identifier in dotted form.
 pub(crate) fn dotted_form(alloc: Global, oid: OidRef<'_>) -> Result<String, AllocError>
-    ensures { IfOk result (λ text. string_bytes text ≡ oid_text oid.entry.content.now) }
+    ensures { IfOk result (λ text. string_bytes text ≡ dotted_form oid.entry.content.now) }
 {
     format!(in alloc; "{oid}")
 }
@@ -73,45 +76,64 @@ fn invalid_line(
     report: &Report<'_>,
     position: u8,
     reason: &Reason<OidRef<'_>>,
-) -> Result<Line, AllocError> {
-    let Some(cert) = report.chain.get((position as usize).saturating_sub(1)) else {
+) -> Result<Line, AllocError>
+    ensures { IfOk result (Explains report.now (Some position)) }
+{
+    let place = position as usize;
+    let chain = report.chain.as_slice();
+    let Some(cert) = chain.get(place.saturating_sub(1)) else {
         return Line::of(alloc, b"no certificate has this place");
     };
     let is_first = position == 1 && matches!(reason, Reason::Signature | Reason::IssuerName);
     if !is_first || cert.issuer().same(report.anchor.name) {
-        return reason_line(alloc, &report.chain, position, reason);
+        return reason_line(alloc, place, chain.len(), cert, reason);
     }
-    let mut line = certificate_line(alloc, position as usize, &report.chain, cert)?;
+    let mut line = certificate_line(alloc, place, chain.len(), cert)?;
     write_no_anchor(alloc, &mut line, cert)?;
     Ok(line)
 }
 
 /// The line on a leaf that is for another host.
-fn host_line(alloc: Global, report: &Report<'_>) -> Result<Line, AllocError> {
-    let Some(cert) = report.chain.last() else {
+fn host_line(alloc: Global, report: &Report<'_>) -> Result<Line, AllocError>
+    ensures { IfOk result (Explains report.now (Some (length report.now.chain.items))) }
+{
+    let chain = report.chain.as_slice();
+    let Some(cert) = chain.last() else {
         return Line::of(alloc, b"no certificate");
     };
-    let mut line = certificate_line(alloc, report.chain.len(), &report.chain, cert)?;
+    let mut line = certificate_line(alloc, chain.len(), chain.len(), cert)?;
     line.text(b"has no name of this host in its subjectAltName (RFC 9525 6)")?;
     Ok(line)
 }
 
+/// Writes whether revocation was looked at.
+fn write_lists(line: &mut Line, has_lists: bool) -> Result<(), AllocError>
+    ensures { OnOk result (line.new ≡ line.old ++ lists_words has_lists) }
+{
+    if has_lists {
+        line.text(b"; no CRL at hand says that one is revoked")
+    } else {
+        line.text(b"; revocation was not looked at, no CRL was given")
+    }
+}
+
 /// The line on a chain that is valid.
-fn valid_line(alloc: Global, report: &Report<'_>) -> Result<Line, AllocError> {
+fn valid_line(alloc: Global, report: &Report<'_>) -> Result<Line, AllocError>
+    ensures { IfOk result (Explains report.now None) }
+{
     let mut line = Line::of(alloc, b"a chain of ")?;
-    line.number(report.chain.len() as u64)?;
+    line.number(report.chain.as_slice().len() as u64)?;
     line.text(b" under the trust anchor ")?;
     write_name(alloc, &mut line, report.anchor.name)?;
-    if report.has_lists {
-        line.text(b"; no CRL at hand says that one is revoked")?;
-    } else {
-        line.text(b"; revocation was not looked at, no CRL was given")?;
-    }
+    write_lists(&mut line, report.has_lists)?;
     Ok(line)
 }
 
 /// The second line of a report, in plain words.
-pub(crate) fn explanation(alloc: Global, report: &Report<'_>) -> Result<Line, AllocError> {
+pub(crate) fn explanation(alloc: Global, report: &Report<'_>) -> Result<Line, AllocError>
+    ensures { IfOk result (Explains report.now
+        (place_in (length report.now.chain.items) report.now.finding)) }
+{
     match &report.finding {
         Finding::Valid(_) => valid_line(alloc, report),
         Finding::Invalid { position, reason } => invalid_line(alloc, report, *position, reason),
@@ -129,9 +151,8 @@ fn end(text: &mut Vec<u8>, line: &Line) -> Result<(), AllocError>
 }
 
 /// The text of a report: its words, and a line that explains them, each ended by a line feed.
-pub fn text(alloc: Global, report: &Report<'_>) -> Result<Vec<u8>, AllocError>
-    ensures { IfOk result (λ text. IsText (length report.now.chain.items) report.now.finding
-        text.items) }
+pub(crate) fn text(alloc: Global, report: &Report<'_>) -> Result<Vec<u8>, AllocError>
+    ensures { IfOk result (λ text. IsText report.now text.items) }
 {
     let words = words_of(alloc, report)?;
     let first = Line::of(alloc, words.as_bytes())?;

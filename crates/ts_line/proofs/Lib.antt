@@ -1,1 +1,3 @@
 pub mod Plain
+pub mod Listed
+pub mod ScopeOctets

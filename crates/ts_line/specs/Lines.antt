@@ -33,6 +33,14 @@ shown_octet octet = if is_printable octet && not (octet == 92) then octet ∷ []
 abbrev pub printable : List ℕ → List ℕ
 printable octets = flat_map shown_octet octets
 
+-- an octet of a text that is shown already: as itself where it is printable, and a backslash too
+abbrev pub kept_octet : ℕ → List ℕ
+kept_octet octet = if is_printable octet then octet ∷ [] else shown_octet octet
+
+-- the octets of such a text: themselves where all of them are printable
+abbrev pub kept : List ℕ → List ℕ
+kept octets = flat_map kept_octet octets
+
 -- a line with the line feed that ends it
 abbrev pub with_line_feed : List ℕ → List ℕ
 with_line_feed line = line ++ 10 ∷ []

@@ -5,19 +5,20 @@
 //! write_name(alloc, &mut line, cert.subject())?;           // subject CN=www.example.org,O=A\x5cB
 //! ```
 //!
-//! - [`Line`]: a line of printable characters of ASCII alone, whatever is written to it
-//!   (`printable`, `specs/Lines`): octets as they are shown, octets in hexadecimal digits, numbers
-//!   in decimal (their clauses).
-//! - [`write_name`], [`write_general`], [`write_oid`]: a distinguished name, a general name and an
-//!   object identifier. [`write_moment`]: a moment. [`write_scope`], [`write_point`]: what a CRL
-//!   covers.
+//! - [`Line`]: a line of printable characters of ASCII alone, whatever is written to it: octets as
+//!   they are shown (`printable`, `specs/Lines`), a text that is shown already as it is (`kept`),
+//!   octets in hexadecimal digits, numbers in decimal. `to_text`: the line as a text.
+//! - [`write_name`], [`name_text`], [`write_general`], [`write_oid`]: a distinguished name, a
+//!   general name and an object identifier (`specs/Names`). A comma and a plus sign within a value
+//!   have a backslash before them, so that a value can't pass for another attribute.
+//! - [`write_point`], [`scope_line`]: what a CRL covers (`specs/Scopes`). [`write_moment`]: a
+//!   moment.
 //!
 //! Out of memory is the only error.
 //!
 //! # Not promised
 //!
-//! Which words are written of a name, of a moment and of what a CRL covers, except that they are
-//! printable: tests show them.
+//! Which words are written of a moment, except that they are printable: tests show them.
 #![tactic(auto)]
 
 mod line;
@@ -26,6 +27,6 @@ mod scope;
 mod time;
 
 pub use line::Line;
-pub use name::{write_general, write_name, write_oid};
-pub use scope::{write_point, write_scope};
+pub use name::{name_text, write_general, write_name, write_oid};
+pub use scope::{scope_line, write_point};
 pub use time::write_moment;

@@ -1,10 +1,12 @@
 //! A line of text that a terminal shows as it is.
 
 ghost use Rattle.std.specs.Prelude.{◌≡◌, ◌<◌, ◌++◌, ◌∷◌, [], true, ℕ, List, OnOk, IfOk};
+ghost use Rattle.std.specs.Prelude.{string_bytes};
 ghost use Rattle.std.specs.Fmt.{decimal};
-ghost use Rattle.std.specs.List.{list_all};
+ghost use Rattle.std.specs.List.{flat_map, list_all};
 ghost use Rattle.ts_line.specs.Lines.{is_printable, digit, two_hex_digits, hex, shown_octet};
-ghost use Rattle.ts_line.specs.Lines.{printable};
+ghost use Rattle.ts_line.specs.Lines.{kept, kept_octet, printable};
+ghost use Rattle.ts_line.specs.Names.{value_octet};
 
 use std::alloc::{AllocError, Global};
 use std::marker::Model;
@@ -76,6 +78,18 @@ impl Line {
         self.octets.as_slice()
     }
 
+    /// The line as a text.
+    pub fn to_text(&self) -> Result<String, AllocError>
+        ensures text { IfOk result (λ text. string_bytes text ≡ self.now) }
+        ensures printable { IfOk result (λ text. list_all is_printable (string_bytes text) ≡ true) }
+    {
+        match str::from_utf8(self.octets.as_slice()) {
+            Ok(text) => String::from_str(self.alloc, text),
+            // Printable characters of ASCII are UTF-8.
+            Err(_) => Err(AllocError),
+        }
+    }
+
     /// Writes a character that is shown as it is.
     fn put(&mut self, octet: u8) -> Result<(), AllocError>
         requires { is_printable octet ≡ true }
@@ -104,6 +118,48 @@ impl Line {
     {
         for octet in octets {
             self.octet(*octet)?;
+        }
+        Ok(())
+    }
+
+    /// Writes an octet of a text that is shown already.
+    fn kept(&mut self, octet: u8) -> Result<(), AllocError>
+        ensures { OnOk result (self.new ≡ self.old ++ kept_octet octet) }
+    {
+        if is_printable(octet) {
+            return self.put(octet);
+        }
+        self.octet(octet)
+    }
+
+    /// Writes a text that is shown already, as what another line holds: a backslash stays as it is.
+    pub fn shown(&mut self, octets: &[u8]) -> Result<(), AllocError>
+        ensures { OnOk result (self.new ≡ self.old ++ kept octets.now) }
+    {
+        for octet in octets {
+            self.kept(*octet)?;
+        }
+        Ok(())
+    }
+
+    /// Writes an octet of the value of an attribute.
+    fn value_octet(&mut self, octet: u8) -> Result<(), AllocError>
+        ensures { OnOk result (self.new ≡ self.old ++ value_octet octet) }
+    {
+        if octet == b',' || octet == b'+' {
+            self.put(b'\\')?;
+            return self.put(octet);
+        }
+        self.octet(octet)
+    }
+
+    /// Writes the value of an attribute of a name: a comma and a plus sign, which separate
+    /// attributes, behind a backslash, other octets as they are shown.
+    pub(crate) fn value(&mut self, octets: &[u8]) -> Result<(), AllocError>
+        ensures { OnOk result (self.new ≡ self.old ++ flat_map value_octet octets.now) }
+    {
+        for octet in octets {
+            self.value_octet(*octet)?;
         }
         Ok(())
     }

@@ -1,9 +1,7 @@
 -- Certificates that are shown, one after another.
-use Rattle.std.proofs.Common.{◌≡◌, ◌∙◌, ◌∷◌, ◌++◌, ◌+◌, ◌<◌, ℕ, List, [], Option, subst, sym, ap, append_assoc, Bool, Vec, Global, map, drop, get_or, length}
+use Rattle.std.proofs.Common.{◌≡◌, ◌∙◌, ◌∷◌, ◌++◌, ◌+◌, ◌<◌, ℕ, List, [], Option, subst, sym, ap, append_assoc, Vec, Global, map, drop, get_or, length}
 use Rattle.std.proofs.lemmas.List.{append-nil, drop-map, drop_more}
-use Rattle.ts_render.specs.Chain.{AreShown, is_place, marks_from}
-use Rattle.ts_render.specs.Texts.{IsPrintable}
-use Rattle.std.specs.Prelude.{string_bytes}
+use Rattle.ts_render.specs.Chain.{AreShown, IsShown, is_place}
 use Rattle.ts_render.specs.declared.chain.CertificateFields.{CertificateFields}
 
 -- the octets of certificates
@@ -24,17 +22,17 @@ pub over : (xs : List (Vec ℕ Global)) (cs : List (List ℕ)) (p : ℕ) → ite
 over xs cs p are none = ap (drop p) (sym are) ∙ (drop-map (λ (x : Vec ℕ Global). x.items) p xs ∙ ap items none)
 
 -- one more is shown, whose certificate is the next
-pub shown_more : (fields rest : List CertificateFields) (f : CertificateFields) (c : List ℕ) (left left' : List (List ℕ)) (p : ℕ) (failing : Option ℕ) (all : List Bool)
-    → left ≡ c ∷ left' → IsPrintable (string_bytes f.subject) → f.fails ≡ is_place p failing
-    → ((rest : List CertificateFields) → AreShown rest (marks_from p left failing) → AreShown (fields ++ rest) all)
-    → AreShown rest (marks_from (p + 1) left' failing) → AreShown ((fields ++ f ∷ []) ++ rest) all
-shown_more fields rest f c left left' p failing all next printable fails behind are =
-    subst (λ (fs : List CertificateFields). AreShown fs all) (sym (append_assoc fields (f ∷ []) rest))
-    (behind (f ∷ rest) (subst (λ (cs : List (List ℕ)). AreShown (f ∷ rest) (marks_from p cs failing)) (sym next) (printable, fails, are)))
+pub shown_more : (fields rest : List CertificateFields) (f : CertificateFields) (c : List ℕ) (left left' : List (List ℕ)) (p : ℕ) (failing : Option ℕ) (all : List (List ℕ))
+    → left ≡ c ∷ left' → IsShown c f → f.fails ≡ is_place p failing
+    → ((rest : List CertificateFields) → AreShown rest p left failing → AreShown (fields ++ rest) 1 all failing)
+    → AreShown rest (p + 1) left' failing → AreShown ((fields ++ f ∷ []) ++ rest) 1 all failing
+shown_more fields rest f c left left' p failing all next shown fails behind are =
+    subst (λ (fs : List CertificateFields). AreShown fs 1 all failing) (sym (append_assoc fields (f ∷ []) rest))
+    (behind (f ∷ rest) (subst (λ (cs : List (List ℕ)). AreShown (f ∷ rest) p cs failing) (sym next) (shown, fails, are)))
 
 -- all are shown
-pub shown_all : (fields : List CertificateFields) (left : List (List ℕ)) (p : ℕ) (failing : Option ℕ) (all : List Bool)
-    → left ≡ [] → ((rest : List CertificateFields) → AreShown rest (marks_from p left failing) → AreShown (fields ++ rest) all) → AreShown fields all
+pub shown_all : (fields : List CertificateFields) (left : List (List ℕ)) (p : ℕ) (failing : Option ℕ) (all : List (List ℕ))
+    → left ≡ [] → ((rest : List CertificateFields) → AreShown rest p left failing → AreShown (fields ++ rest) 1 all failing) → AreShown fields 1 all failing
 shown_all fields left p failing all none behind =
-    subst (λ (fs : List CertificateFields). AreShown fs all) (append-nil fields)
-    (behind [] (subst (λ (cs : List (List ℕ)). AreShown [] (marks_from p cs failing)) (sym none) tt))
+    subst (λ (fs : List CertificateFields). AreShown fs 1 all failing) (append-nil fields)
+    (behind [] (subst (λ (cs : List (List ℕ)). AreShown [] p cs failing) (sym none) tt))

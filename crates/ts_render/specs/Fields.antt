@@ -12,7 +12,8 @@ use Rattle.ts_question.specs.Reply.{NumberedReply}
 use Rattle.ts_question.specs.declared.reply.Reply.{Reply}
 use Rattle.ts_question.specs.declared.reply.Reply.TheVariants.{Valid, Invalid, Found}
 use Rattle.ts_render.specs.Replies.{name_of, position_in, prefix_in, valid_in}
-use Rattle.ts_render.specs.Texts.{IsPrintable, TellsMoment, dotted_form}
+use Rattle.ts_render.specs.Texts.{IsPrintable, TellsMoment}
+use Rattle.ts_line.specs.Names.{dotted_form}
 
 abbrev pub anchor_in : Reply → Option (List ℕ)
 anchor_in (Valid anchor policies) = Some anchor

@@ -8,7 +8,8 @@ use Rattle.ts_question.specs.Rows.{CrlLine, CrlFits, crl_encoding}
 use Rattle.ts_question.specs.Rows.{CommandLine, CommandFits, command_encoding}
 use Rattle.ts_command.specs.Outcomes.{outcome_words}
 use Rattle.ts_render.specs.Outcomes.{kind_word, outcome_of}
-use Rattle.ts_render.specs.Texts.{IsPrintable, IsTold, TellsMoment, hex_or_none, dotted_form}
+use Rattle.ts_render.specs.Texts.{IsNameShown, IsTold, TellsMoment, hex_or_none}
+use Rattle.ts_line.specs.Names.{dotted_form}
 use Rattle.ts_render.specs.declared.rows.PurposeFields.{PurposeFields}
 use Rattle.ts_render.specs.declared.rows.PurposeFields.TheVariants.{Any, These, Unknown}
 use Rattle.ts_render.specs.declared.rows.AnchorFields.{AnchorFields}
@@ -43,14 +44,14 @@ AreSet (octet ∷ octets) (Some fields) = ArePurposes (octet ∷ octets) fields
 
 pub record IsAnchorRow (line : AnchorLine) (fields : AnchorFields) : Type 0 where
   pub id_is : string_bytes fields.id ≡ encode_lower line.id
-  pub subject : IsPrintable (string_bytes fields.subject)
+  pub subject : IsNameShown line.subject (string_bytes fields.subject)
   pub purposes : ArePurposes line.purposes fields.purposes
 
 -- ---- CRLs
 
 pub record IsCrlRow (line : CrlLine) (fields : CrlFields) : Type 0 where
   pub id_is : string_bytes fields.id ≡ encode_lower line.id
-  pub issuer : IsPrintable (string_bytes fields.issuer)
+  pub issuer : IsNameShown line.issuer (string_bytes fields.issuer)
   pub number_is : option_map string_bytes fields.number ≡ hex_or_none line.number
   pub base_is : option_map string_bytes fields.base ≡ hex_or_none line.base
   pub scope : IsTold line.scope (option_map string_bytes fields.scope)

@@ -1,12 +1,12 @@
 //! The certificates of a question, and which of them is not good.
 
-ghost use Rattle.std.specs.Prelude.{◌≡◌, IfOk, map, option_map, string_bytes};
-ghost use Rattle.ts_render.specs.Chain.{AreShown, certificates_in, failing_in, marks};
-ghost use Rattle.ts_render.specs.Texts.{IsPrintable};
+ghost use Rattle.std.specs.Prelude.{◌≡◌, IfOk, map};
+ghost use Rattle.ts_render.specs.Chain.{AreShown, IsShown, certificates_in, failing_in};
 
-use crate::text::{moment_text, name_text};
+use crate::text::moment_text;
 use std::alloc::{AllocError, Global};
 use ts_cert::Cert;
+use ts_line::name_text;
 use ts_question::{Question, Reply, Target};
 
 /// A certificate of a question.
@@ -50,8 +50,7 @@ fn certificate_fields(
     octets: &[u8],
     fails: bool,
 ) -> Result<CertificateFields, AllocError>
-    ensures { IfOk result (λ fields. IsPrintable (string_bytes fields.subject)
-        × (fields.fails ≡ fails)) }
+    ensures { IfOk result (λ fields. IsShown octets.now fields × (fields.fails ≡ fails)) }
 {
     let Ok(certificate) = Cert::read(octets) else {
         return Ok(CertificateFields {
@@ -70,8 +69,8 @@ fn certificate_fields(
     })
 }
 
-/// The certificates of a question, in its order, of which the one is marked that a reply names as
-/// not good.
+/// What is shown of the certificates of a question, in its order. The one is marked that a reply
+/// names as not good.
 ///
 /// # Errors
 ///
@@ -81,8 +80,8 @@ pub fn chain_fields(
     question: &Question,
     reply: &Reply,
 ) -> Result<Vec<CertificateFields>, AllocError>
-    ensures { IfOk result (λ fields. AreShown fields.items
-        (marks (certificates_in question.now) (failing_in reply.now))) }
+    ensures { IfOk result (λ fields. AreShown fields.items 1 (certificates_in question.now)
+        (failing_in reply.now)) }
 {
     let failing = failing_in(reply);
     let mut all = Vec::new(alloc);

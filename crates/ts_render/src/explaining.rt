@@ -40,7 +40,11 @@ fn invalid_line(
     reason: &Reason<Oid>,
 ) -> Result<Line, AllocError> {
     let chain = certificates_of(alloc, strings_of(question))?;
-    reason_line(alloc, &chain, position, &reason.as_ref())
+    let place = position as usize;
+    match chain.get(place.saturating_sub(1)) {
+        Some(cert) => reason_line(alloc, place, chain.len(), cert, &reason.as_ref()),
+        None => Line::of(alloc, b"no certificate has this place"),
+    }
 }
 
 /// The line on a chain that is valid.

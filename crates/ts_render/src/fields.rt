@@ -9,7 +9,8 @@ ghost use Rattle.ts_reason.specs.Printed.{reason_text};
 ghost use Rattle.ts_explain.specs.Sections.{section as section_of};
 ghost use Rattle.ts_render.specs.Fields.{AreFields, AreWords, anchor_in, places_in};
 ghost use Rattle.ts_render.specs.Fields.{policies_in};
-ghost use Rattle.ts_render.specs.Texts.{IsPrintable, dotted_form};
+ghost use Rattle.ts_render.specs.Texts.{IsPrintable};
+ghost use Rattle.ts_line.specs.Names.{dotted_form};
 
 use crate::explaining::explanation;
 use crate::replies::{name_of, position_in, prefix_in, valid_in};

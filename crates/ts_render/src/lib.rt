@@ -16,8 +16,8 @@
 //!   that they are none. [`row_members`]: the fields as members of an object (`specs/RowMembers`).
 //! - [`row_text`]: the text of the object of these members. [`write_row`]: a row as a line that a
 //!   person reads, of which words `specs/RowLines` says.
-//! - [`chain_fields`]: the certificates of a question, of which the one is marked that a reply
-//!   names (`specs/Chain`).
+//! - [`chain_fields`]: the certificates of a question, their subjects and validities, of which the
+//!   one is marked that a reply names (`specs/Chain`).
 //! - [`explanation`]: `IsLine` (`specs/Line`): what a reply means in plain words, one line of
 //!   printable characters of ASCII that is ended by a line feed.
 //! - [`moment_text`]: a moment.
@@ -26,8 +26,7 @@
 //!
 //! # Not promised
 //!
-//! What the explanation says, of which some lines are tested, and names, but that they are
-//! printable.
+//! What the explanation says, of which some lines are tested, but that it is printable.
 #![tactic(auto)]
 
 mod chain;

@@ -4,7 +4,7 @@ ghost use Rattle.std.specs.Prelude.{◌≡◌, ℕ, List, IfOk, MatchOption, map
 ghost use Rattle.ts_question.specs.RowView.{anchor_line, command_line, crl_line};
 ghost use Rattle.ts_render.specs.Rows.{ArePurposes, IsAnchorRow, IsCommandRow, IsCrlRow, IsNoRow};
 ghost use Rattle.ts_render.specs.Rows.{AreSet, AreTold, IsRow, setting, words_of};
-ghost use Rattle.ts_render.specs.Texts.{dotted_form};
+ghost use Rattle.ts_line.specs.Names.{dotted_form};
 
 use crate::outcome::{kind_word, outcome_of};
 use crate::text::{content_text, hex_or_none, moment_text, scope_text};

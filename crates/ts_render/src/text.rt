@@ -2,12 +2,13 @@
 
 ghost use Rattle.std.specs.Prelude.{◌≡◌, IfOk, option_map, string_bytes};
 ghost use Rattle.hex.specs.Hex.{encode_lower};
-ghost use Rattle.ts_render.specs.Texts.{IsPrintable, IsTold, TellsMoment, hex_or_none};
+ghost use Rattle.ts_render.specs.Texts.{IsNameShown, IsScopeShown, IsTold, TellsMoment};
+ghost use Rattle.ts_render.specs.Texts.{hex_or_none};
 
 use std::alloc::{AllocError, Global};
-use ts_der::Reader;
+use ts_der::Element;
 use ts_der::tag::SEQUENCE;
-use ts_line::{Line, write_name, write_scope};
+use ts_line::{Line, scope_line, write_name};
 use ts_name::Name;
 use ts_time::{Moment, print_general};
 
@@ -49,56 +50,38 @@ pub(crate) fn hex_or_none(alloc: Global, octets: &[u8]) -> Result<Option<String>
     Ok(Some(hex::encode(alloc, octets)?))
 }
 
-/// A Name in DER of these contents octets.
-fn name_der(alloc: Global, content: &[u8]) -> Result<Vec<u8>, AllocError> {
-    let size = content.len();
-    let mut octets = Vec::new(alloc);
-    octets.push(SEQUENCE)?;
-    if size < 128 {
-        octets.push(size as u8)?;
-    } else if size < 256 {
-        octets.push(0x81)?;
-        octets.push(size as u8)?;
-    } else {
-        octets.push(0x82)?;
-        octets.extend_from_slice(&(size.min(65_535) as u16).to_be_bytes())?;
-    }
-    octets.extend_from_slice(content)?;
-    Ok(octets)
-}
-
 /// The line of a name of which these are the contents octets, or of what they are else.
-fn name_line(alloc: Global, content: &[u8]) -> Result<Line, AllocError> {
+fn name_line(alloc: Global, content: &[u8]) -> Result<Line, AllocError>
+    ensures { IfOk result (IsNameShown content.now) }
+{
     if content.len() >= MOST {
         return Line::of(alloc, b"(a name of 4096 octets or more)");
     }
-    let octets = name_der(alloc, content)?;
     let mut line = Line::new(alloc);
-    let mut reader = Reader::new(&octets);
-    match reader.element(SEQUENCE) {
-        Ok(element) => match Name::read(element) {
-            Ok(name) => write_name(alloc, &mut line, name)?,
-            Err(_) => line.hex(content)?,
-        },
+    match Name::read(Element::of_content(SEQUENCE, content)) {
+        Ok(name) => write_name(alloc, &mut line, name)?,
         Err(_) => line.hex(content)?,
     }
     Ok(line)
 }
 
-/// The text of a line.
-pub(crate) fn line_text(alloc: Global, line: &Line) -> Result<String, AllocError>
-    ensures { IfOk result (λ text. IsPrintable (string_bytes text)) }
-{
-    text_of(alloc, line.as_slice())
-}
-
 /// A name of which these are the contents octets, in printable characters; of a long one, that it
 /// is long.
 pub(crate) fn content_text(alloc: Global, content: &[u8]) -> Result<String, AllocError>
-    ensures { IfOk result (λ text. IsPrintable (string_bytes text)) }
+    ensures { IfOk result (λ text. IsNameShown content.now (string_bytes text)) }
 {
     let line = name_line(alloc, content)?;
-    line_text(alloc, &line)
+    line.to_text()
+}
+
+/// The line of what a CRL covers, of which these are the octets; of long ones, that they are long.
+fn known_scope(alloc: Global, scope: &[u8]) -> Result<Line, AllocError>
+    ensures { IfOk result (IsScopeShown scope.now) }
+{
+    if scope.len() >= MOST {
+        return Line::of(alloc, b"(a scope of 4096 octets or more)");
+    }
+    scope_line(alloc, scope)
 }
 
 /// What a CRL covers, in printable characters, if it says so; of a long scope, that it is long.
@@ -108,20 +91,6 @@ pub(crate) fn scope_text(alloc: Global, scope: &[u8]) -> Result<Option<String>, 
     if scope.is_empty() {
         return Ok(None);
     }
-    let mut line = Line::new(alloc);
-    if scope.len() >= MOST {
-        line.text(b"(a scope of 4096 octets or more)")?;
-    } else {
-        write_scope(alloc, &mut line, scope)?;
-    }
-    Ok(Some(line_text(alloc, &line)?))
-}
-
-/// A name in printable characters.
-pub(crate) fn name_text(alloc: Global, name: Name<'_>) -> Result<String, AllocError>
-    ensures { IfOk result (λ text. IsPrintable (string_bytes text)) }
-{
-    let mut line = Line::new(alloc);
-    write_name(alloc, &mut line, name)?;
-    line_text(alloc, &line)
+    let line = known_scope(alloc, scope)?;
+    Ok(Some(line.to_text()?))
 }

@@ -3,8 +3,7 @@ use Rattle.std.specs.Prelude.{◌==◌, ℕ, List, [], ◌∷◌, ◌++◌, Opti
 use Rattle.std.specs.Fmt.{decimal}
 use Rattle.std.specs.List.{flat_map}
 use Rattle.hex.specs.Hex.{encode_lower}
-use Rattle.ts_der.specs.Dotted.{dotted_text}
-use Rattle.ts_der.specs.ObjectIdentifier.{arcs}
+use Rattle.ts_line.specs.Names.{dotted_form}
 use Rattle.ts_der.specs.declared.fault.DerFault.TheVariants as der
 use Rattle.ts_question.specs.declared.reply.Reply.{Reply}
 use Rattle.ts_question.specs.declared.reply.Reply.TheVariants.{Valid, Invalid, Found, NoPath}
@@ -31,7 +30,7 @@ fault_name faults.GenerationsExhausted = codes "GenerationsExhausted"
 
 -- accepted policies in dotted form, each behind a space
 abbrev pub policies_words : List (List ℕ) → List ℕ
-policies_words policies = flat_map (λ oid. codes " " ++ dotted_text (arcs oid)) policies
+policies_words policies = flat_map (λ oid. codes " " ++ dotted_form oid) policies
 
 -- a chain that is valid, with its policies, or a hyphen where there is none
 abbrev pub valid_words : List (List ℕ) → List ℕ

@@ -1,5 +1,5 @@
 mod Members
-mod Owed
+mod ForRequests
 mod Asked
 mod Steps
 mod Begun

@@ -34,7 +34,7 @@ IsBegun s = IsNew s.0 × (s.1 ≡ None)
 
 -- ---- what the node is asked
 
--- for a request, behind these answers of its, of which the last stands first
+-- what the node is asked for a request after it gave these answers, the latest first
 abbrev pub IsAskedBehind : List Frame → Request → Asking → Type 0
 IsAskedBehind [] r asking = (scene : Scene) × Begins scene r (Ask asking.pending asking.frame)
 IsAskedBehind (frame ∷ frames) r asking = (old : Asking) × IsAskedBehind frames r old
@@ -43,7 +43,7 @@ IsAskedBehind (frame ∷ frames) r asking = (old : Asking) × IsAskedBehind fram
 abbrev pub IsAsked : Request → Asking → Type 0
 IsAsked r asking = (frames : List Frame) × IsAskedBehind frames r asking
 
--- what the node is asked is for the request that waits
-abbrev pub IsOwed : State → Type 0
-IsOwed s = (asking : Asking) → s.1 ≡ Some asking
+-- what the node is asked, it is asked for the request that waits
+abbrev pub AsksForIts : State → Type 0
+AsksForIts s = (asking : Asking) → s.1 ≡ Some asking
     → (r : Request) × (request_in s.0 ≡ Some r) × IsAsked r asking

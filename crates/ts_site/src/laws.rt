@@ -9,7 +9,7 @@ ghost use Rattle.ts_api.specs.Asking.{IsAskedBy};
 ghost use Rattle.ts_api.specs.Request.{route_in};
 ghost use Rattle.ts_api.specs.declared.asking.AskedQuestion.{AskedQuestion};
 ghost use Rattle.ts_api.specs.declared.route.Route.{Route};
-ghost use Rattle.ts_site.specs.Account.{Call, Calls, IsAsked, IsBegun, IsOwed};
+ghost use Rattle.ts_site.specs.Account.{Call, Calls, IsAsked, IsBegun, AsksForIts};
 ghost use Rattle.ts_site.specs.Faces.{State};
 ghost use Rattle.ts_site.specs.declared.face.Asking.{Asking};
 ghost use Rattle.ts_site.specs.declared.next.Waits.TheVariants.{Verdict};
@@ -17,13 +17,13 @@ ghost use Rattle.ts_site.specs.declared.next.Waits.TheVariants.{Verdict};
 /// Whatever calls are made on a connection, and in whatever order: what the node is asked, it is
 /// asked for the request that waits for its response, first or behind its answers to what it was
 /// asked for that request before.
-pub fn each_frame_is_for_its_request()
-    ensures { (s t : State) (calls : List Call) → IsBegun s → Calls s calls t → IsOwed t }
+pub fn asks_for_requests()
+    ensures { (s t : State) (calls : List Call) → IsBegun s → Calls s calls t → AsksForIts t }
 {}
 
 /// While a verdict is asked for a request, the frame is that of the question that the request
 /// itself says, at some moment.
-pub fn each_question_is_the_requests()
+pub fn asks_their_questions()
     ensures { (r : Request) (asking : Asking) (asked : AskedQuestion) (route : Route)
         → IsAsked r asking → asking.pending.waits ≡ Verdict asked route
         → (route ≡ route_in r.target.items)

@@ -18,9 +18,9 @@
 //!   has, which body, which header fields, and for how long it may be kept (`specs/Verdicts`,
 //!   `Listings`, `Statuses`). A command is handed on only from whoever shows the secret of a key
 //!   that may submit it, and is refused with 401 or 403 else (`specs/Commanding`).
-//! - [`each_frame_is_for_its_request`], [`each_question_is_the_requests`]: over every list of calls
-//!   of a connection, the node is asked for the request that waits, and, where a verdict is asked,
-//!   the question that this request says.
+//! - [`asks_for_requests`], [`asks_their_questions`]: over every list of calls of a connection, the
+//!   node is asked for the request that waits, and, where a verdict is asked, the question that this
+//!   request says.
 //! - [`Scene`]: what a request finds: the time, the node's number and keys. [`Board`]: what a node
 //!   shows: its peers, and counts.
 //!
@@ -49,7 +49,7 @@ mod verifying;
 
 pub use board::{Board, Label, Metric, Turns};
 pub use face::Face;
-pub use laws::{each_frame_is_for_its_request, each_question_is_the_requests};
+pub use laws::{asks_for_requests, asks_their_questions};
 pub use ts_api::Scene;
 pub use ts_http::{HttpFault, MAX_BODY};
 pub use ts_page::PeerLine;

@@ -1,6 +1,6 @@
 -- The texts of those that were taken.
 use Rattle.std.proofs.Common.{◌≡◌, map, take, string_bytes}
-use Rattle.ts_render.specs.Texts.{dotted_form}
+use Rattle.ts_line.specs.Names.{dotted_form}
 use Rattle.ts_render.proofs.rows.all_dotted.Given as goal
 
 abbrev pub invariant-loop-oid : goal.invariant-loop-oid

@@ -4,7 +4,7 @@ use Rattle.ts_http.specs.Moves.{request_at, request_in}
 use Rattle.ts_http.specs.declared.request.Request.{Request}
 use Rattle.ts_wire.specs.declared.frame.Frame.{Frame}
 use Rattle.ts_api.specs.declared.scene.Scene.{Scene}
-use Rattle.ts_site.specs.Account.{Call, Calls, Came, Given, IsAsked, IsBegun, IsOwed}
+use Rattle.ts_site.specs.Account.{Call, Calls, Came, Given, IsAsked, IsBegun, AsksForIts}
 use Rattle.ts_site.specs.Account.{Left, Makes, Taken}
 use Rattle.ts_site.specs.Faces.{Follows, IsGiven, State, Takes, TakesOne}
 use Rattle.ts_site.specs.Requests.{Begins, GoesOn}
@@ -17,17 +17,17 @@ NoneAt None = Unit {0}
 NoneAt (Some asking) = ⊥
 
 -- nothing is asked
-nothing : (s : State) → s.1 ≡ None → IsOwed s
+nothing : (s : State) → s.1 ≡ None → AsksForIts s
 nothing s none asking is = absurd (subst NoneAt (sym none ∙ is) tt)
 
 -- nothing else is asked, and the same request waits
-same : (s t : State) → t.1 ≡ s.1 → request_in t.0 ≡ request_in s.0 → IsOwed s → IsOwed t
-same s t asks waits owed asking is =
-    let o = owed asking (sym asks ∙ is) in (o.0, waits ∙ o.1, o.2)
+same : (s t : State) → t.1 ≡ s.1 → request_in t.0 ≡ request_in s.0 → AsksForIts s → AsksForIts t
+same s t asks waits for_its_request asking is =
+    let o = for_its_request asking (sym asks ∙ is) in (o.0, waits ∙ o.1, o.2)
 
 -- this is asked for the request that waits
 asked : (s t : State) (r : Request) (asking : Asking) → t.0 ≡ s.0 → t.1 ≡ Some asking
-    → request_in s.0 ≡ Some r → IsAsked r asking → IsOwed t
+    → request_in s.0 ≡ Some r → IsAsked r asking → AsksForIts t
 asked s t r asking stays asks waits is other e = (
   r,
   ap request_in stays ∙ waits,
@@ -38,47 +38,47 @@ asked s t r asking stays asks waits is other e = (
 -- ---- before the node is asked
 
 first : (scene : Scene) (s t : State) (r : Request) (next : Next) → s.1 ≡ None
-    → request_in s.0 ≡ Some r → Begins scene r next → Follows next s t → IsOwed t
+    → request_in s.0 ≡ Some r → Begins scene r next → Follows next s t → AsksForIts t
 first scene s t r (Tell response) none waits begins follows = nothing t (follows.1 ∙ none)
 first scene s t r (Ask pending octets) none waits begins follows =
     asked s t r (record { pending = pending; frame = octets }) follows.0 follows.1 waits ([], (scene, begins))
 
-takes_one : (scene : Scene) (s t : State) → TakesOne scene s t → IsOwed t
+takes_one : (scene : Scene) (s t : State) → TakesOne scene s t → AsksForIts t
 takes_one scene s t (none, inl read) = nothing t read.1
 takes_one scene s t (none, inr (inl wrong)) = nothing t (wrong.4.1 ∙ none)
 takes_one scene s t (none, inr (inr begun)) = first scene s t begun.0 begun.2 none begun.1 begun.3 begun.4
 
-takes : (scene : Scene) (s : State) (mids : List State) (t : State) → Takes scene s mids t → IsOwed s
-    → IsOwed t
-takes scene s [] t is owed = subst IsOwed is owed
-takes scene s (mid ∷ mids) t is owed = takes_one scene mid t is.1
+takes : (scene : Scene) (s : State) (mids : List State) (t : State) → Takes scene s mids t → AsksForIts s
+    → AsksForIts t
+takes scene s [] t is for_its_request = subst AsksForIts is for_its_request
+takes scene s (mid ∷ mids) t is for_its_request = takes_one scene mid t is.1
 
 -- ---- once it has answered
 
 behind : (s t : State) (frame : Frame) (r : Request) (old : Asking) (next : Next)
     → request_in s.0 ≡ Some r → IsAsked r old → GoesOn old.pending.waits frame next
-    → Follows next (s.0, None) t → IsOwed t
+    → Follows next (s.0, None) t → AsksForIts t
 behind s t frame r old (Tell response) waits is goes follows = nothing t follows.1
 behind s t frame r old (Ask pending octets) waits is goes follows =
     asked s t r (record { pending = pending; frame = octets }) follows.0 follows.1 waits
     (frame ∷ is.0, (old, is.1, goes))
 
-given : (s t : State) (frame : Frame) → IsGiven s frame t → IsOwed s → IsOwed t
-given s t frame is owed =
-    let o = owed is.0 is.1 in
+given : (s t : State) (frame : Frame) → IsGiven s frame t → AsksForIts s → AsksForIts t
+given s t frame is for_its_request =
+    let o = for_its_request is.0 is.1 in
     behind s t frame o.0 is.0 is.2 o.1 o.2 is.3 is.4
 
 -- ---- all calls
 
-makes : (call : Call) (s t : State) → Makes s call t → IsOwed s → IsOwed t
-makes (Came piece) s t is owed = same s t is.1 (ap request_at is.0.stage_is) owed
-makes (Taken scene) s t is owed = takes scene s is.0 t is.1 owed
-makes (Given frame) s t is owed = given s t frame is owed
-makes (Left count) s t is owed = same s t is.1 (ap request_at is.0.stage_is) owed
+makes : (call : Call) (s t : State) → Makes s call t → AsksForIts s → AsksForIts t
+makes (Came piece) s t is for_its_request = same s t is.1 (ap request_at is.0.stage_is) for_its_request
+makes (Taken scene) s t is for_its_request = takes scene s is.0 t is.1 for_its_request
+makes (Given frame) s t is for_its_request = given s t frame is for_its_request
+makes (Left count) s t is for_its_request = same s t is.1 (ap request_at is.0.stage_is) for_its_request
 
-calls_owe : (s t : State) (calls : List Call) → IsOwed s → Calls s calls t → IsOwed t
-calls_owe s t [] owed is = subst IsOwed is owed
-calls_owe s t (call ∷ calls) owed is = calls_owe is.0 t calls (makes call s is.0 is.1 owed) is.2
+calls_owe : (s t : State) (calls : List Call) → AsksForIts s → Calls s calls t → AsksForIts t
+calls_owe s t [] for_its_request is = subst AsksForIts is for_its_request
+calls_owe s t (call ∷ calls) for_its_request is = calls_owe is.0 t calls (makes call s is.0 is.1 for_its_request) is.2
 
-pub owed : (s t : State) (calls : List Call) → IsBegun s → Calls s calls t → IsOwed t
-owed s t calls begun is = calls_owe s t calls (nothing s begun.1) is
+pub for_its_request : (s t : State) (calls : List Call) → IsBegun s → Calls s calls t → AsksForIts t
+for_its_request s t calls begun is = calls_owe s t calls (nothing s begun.1) is
