@@ -1,5 +1,7 @@
 //! A record: its octets, what it opens to, and its refusals.
 
+ghost use Rattle.std.specs.Prelude.{◌≤◌};
+
 use std::alloc::{AllocError, Global};
 use std::marker::Model;
 use std::test::Fail;
@@ -81,20 +83,46 @@ fn a_format_writes_a_head_on_each_disk(rt: HostRuntime) -> Result<(), Fail> {
     Ok(())
 }
 
-/// The disks of a record to which no facts were appended, and then one.
-fn disks_of_one_append(alloc: Global) -> Result<Option<(MemDisk, MemDisk)>, Fail> {
+/// A new record of a node of three, if it opens.
+fn formatted(alloc: Global, node: u8) -> Result<Option<Record<MemDisk, Word>>, Fail>
+    requires from { 1 ≤ node }
+    requires to { node ≤ 3 }
+{
     let (mut a, mut b) = (empty(alloc)?, empty(alloc)?);
-    Record::<MemDisk, Word>::format(&mut a, &mut b, 1, 3, 0)?;
-    let Ok(mut record) = Record::<MemDisk, Word>::open(alloc, a, b) else {
-        return Ok(None);
-    };
+    Record::<MemDisk, Word>::format(&mut a, &mut b, node, 3, 0)?;
+    Ok(Record::<MemDisk, Word>::open(alloc, a, b).ok())
+}
+
+/// The disks of a record, where its facts were appended. It is let go in one place, as each such
+/// place is proved.
+fn closed(
+    record: Record<MemDisk, Word>,
+    appended: Result<(), Fail>,
+) -> Result<Option<(MemDisk, MemDisk)>, Fail> {
+    let disks = record.close();
+    match appended {
+        Ok(()) => Ok(Some(disks)),
+        Err(fail) => {
+            drop(disks);
+            Err(fail)
+        }
+    }
+}
+
+/// Appends no facts, and then one.
+fn append_one(alloc: Global, record: &mut Record<MemDisk, Word>) -> Result<(), Fail> {
     record.append(alloc, &[])?;
     record.append(alloc, &[Fact::Used { round: 1 }])?;
-    Ok(if record.facts().len() == 1 {
-        Some(record.close())
-    } else {
-        None
-    })
+    Ok(())
+}
+
+/// The disks of a record to which no facts were appended, and then one.
+fn disks_of_one_append(alloc: Global) -> Result<Option<(MemDisk, MemDisk)>, Fail> {
+    let Some(mut record) = formatted(alloc, 1)? else {
+        return Ok(None);
+    };
+    let appended = append_one(alloc, &mut record);
+    closed(record, appended)
 }
 
 /// The octets of the writes at 26 and at 25, each of which is synced, where these are the last
@@ -136,13 +164,8 @@ fn an_append_makes_four_calls(rt: HostRuntime) -> Result<(), Fail> {
     Ok(())
 }
 
-/// The disks of a record to which two facts were appended, and then a third.
-fn with_three_facts(alloc: Global) -> Result<Option<(MemDisk, MemDisk)>, Fail> {
-    let (mut a, mut b) = (empty(alloc)?, empty(alloc)?);
-    Record::<MemDisk, Word>::format(&mut a, &mut b, 2, 3, 0)?;
-    let Ok(mut record) = Record::<MemDisk, Word>::open(alloc, a, b) else {
-        return Ok(None);
-    };
+/// Appends two facts, and then a third.
+fn append_three(alloc: Global, record: &mut Record<MemDisk, Word>) -> Result<(), Fail> {
     let command = Word {
         octets: [7, 8].to_vec(alloc)?,
     };
@@ -170,7 +193,16 @@ fn with_three_facts(alloc: Global) -> Result<Option<(MemDisk, MemDisk)>, Fail> {
             command,
         }],
     )?;
-    Ok(Some(record.close()))
+    Ok(())
+}
+
+/// The disks of a record of these three facts.
+fn with_three_facts(alloc: Global) -> Result<Option<(MemDisk, MemDisk)>, Fail> {
+    let Some(mut record) = formatted(alloc, 2)? else {
+        return Ok(None);
+    };
+    let appended = append_three(alloc, &mut record);
+    closed(record, appended)
 }
 
 /// Whether these are the three facts.
@@ -308,13 +340,8 @@ fn a_crash_leaves_the_facts_before_or_after(rt: HostRuntime) -> Result<(), Fail>
     Ok(())
 }
 
-/// A record of four entries.
-fn with_four_bodies(alloc: Global) -> Result<Option<(MemDisk, MemDisk)>, Fail> {
-    let (mut a, mut b) = (empty(alloc)?, empty(alloc)?);
-    Record::<MemDisk, Word>::format(&mut a, &mut b, 1, 3, 0)?;
-    let Ok(mut record) = Record::<MemDisk, Word>::open(alloc, a, b) else {
-        return Ok(None);
-    };
+/// Appends four facts, one by one.
+fn append_four(alloc: Global, record: &mut Record<MemDisk, Word>) -> Result<(), Fail> {
     record.append(alloc, &[Fact::Used { round: 1 }])?;
     record.append(
         alloc,
@@ -344,7 +371,16 @@ fn with_four_bodies(alloc: Global) -> Result<Option<(MemDisk, MemDisk)>, Fail> {
             command,
         }],
     )?;
-    Ok(Some(record.close()))
+    Ok(())
+}
+
+/// The disks of a record of four entries.
+fn with_four_bodies(alloc: Global) -> Result<Option<(MemDisk, MemDisk)>, Fail> {
+    let Some(mut record) = formatted(alloc, 1)? else {
+        return Ok(None);
+    };
+    let appended = append_four(alloc, &mut record);
+    closed(record, appended)
 }
 
 /// Whether opening succeeded, or was refused with a fault that names the image as the cause.

@@ -23,26 +23,23 @@ const PREFIX_1: &[u8] = b"\x00\x00\x00\x06\x02\x27\x00\x00\x00\x01";
 /// FrameFault Kind.
 const KIND: &[u8] = b"\x00\x00\x00\x03\x02\x26\x03";
 
-/// Has a piece come on a slot, and takes what is whole. An error where memory was refused.
+/// Has a piece come on a slot, and takes what is whole. Whether memory was had.
 fn feed(
     table: &mut Connections,
     service: &mut Numbers,
     slot: usize,
     piece: &[u8],
     now: u64,
-) -> Result<(), AllocError> {
+) -> bool {
     if table.arrive(slot, piece, now) == Err(ArriveFault::Memory) {
-        return Err(AllocError);
+        return false;
     }
     let (_taken, had_memory) = take_some(table, slot, service, 64, now);
-    if had_memory { Ok(()) } else { Err(AllocError) }
+    had_memory
 }
 
 /// What waits after the three requests came in pieces that begin at these places.
 fn cut(alloc: Global, one: usize, two: usize) -> Result<bool, AllocError> {
-    let mut table = Connections::new(alloc, 1)?;
-    let mut service = Numbers::new(alloc);
-    let _slot = table.open(0);
     let (Some(first), Some(second), Some(third)) = (
         THREE.get(..one),
         THREE.get(one..two),
@@ -50,10 +47,15 @@ fn cut(alloc: Global, one: usize, two: usize) -> Result<bool, AllocError> {
     ) else {
         return Ok(true);
     };
-    feed(&mut table, &mut service, 0, first, 0)?;
-    feed(&mut table, &mut service, 0, second, 0)?;
-    feed(&mut table, &mut service, 0, third, 0)?;
-    Ok(table.waiting(0) == ANSWERS)
+    let mut table = Connections::new(alloc, 1)?;
+    let mut service = Numbers::new(alloc);
+    let _slot = table.open(0);
+    let mut good = feed(&mut table, &mut service, 0, first, 0);
+    good &= feed(&mut table, &mut service, 0, second, 0);
+    good &= feed(&mut table, &mut service, 0, third, 0);
+    good &= table.waiting(0) == ANSWERS;
+    drop(table);
+    Ok(good)
 }
 
 #[test]
@@ -74,13 +76,15 @@ fn answers_interleaved_streams(alloc: Global) -> Result<bool, AllocError> {
     let mut service = Numbers::new(alloc);
     let a = table.open(0);
     let b = table.open(0);
+    let mut good = a == Some(0) && b == Some(1);
     for octet in STATUS {
-        feed(&mut table, &mut service, 0, &[*octet], 0)?;
-        feed(&mut table, &mut service, 1, &[*octet], 0)?;
+        good &= feed(&mut table, &mut service, 0, &[*octet], 0);
+        good &= feed(&mut table, &mut service, 1, &[*octet], 0);
     }
-    let first = table.waiting(0) == PREFIX_0;
-    let second = table.waiting(1) == PREFIX_1;
-    Ok(a == Some(0) && b == Some(1) && first && second)
+    good &= table.waiting(0) == PREFIX_0;
+    good &= table.waiting(1) == PREFIX_1;
+    drop(table);
+    Ok(good)
 }
 
 #[test]
@@ -95,13 +99,14 @@ fn faulty(alloc: Global) -> Result<bool, AllocError> {
     let mut service = Numbers::new(alloc);
     let _a = table.open(0);
     let _b = table.open(0);
-    feed(&mut table, &mut service, 0, b"\x00\x00\x00\x02\x02\x24", 0)?;
-    let refused = table.arrive(0, STATUS, 0) == Err(ArriveFault::NotOpen);
-    let nothing = table.take(0, &mut service, 0)? == TakeResult::Nothing;
-    let said = table.waiting(0) == KIND && table.stage(0) == Stage::Refused;
-    feed(&mut table, &mut service, 1, STATUS, 0)?;
-    let other = table.waiting(1) == PREFIX_0;
-    Ok(refused && nothing && said && other && service.next == 1)
+    let mut good = feed(&mut table, &mut service, 0, b"\x00\x00\x00\x02\x02\x24", 0);
+    good &= table.arrive(0, STATUS, 0) == Err(ArriveFault::NotOpen);
+    good &= matches!(table.take(0, &mut service, 0), Ok(TakeResult::Nothing));
+    good &= table.waiting(0) == KIND && table.stage(0) == Stage::Refused;
+    good &= feed(&mut table, &mut service, 1, STATUS, 0);
+    good &= table.waiting(1) == PREFIX_0;
+    drop(table);
+    Ok(good && service.next == 1)
 }
 
 #[test]
@@ -115,14 +120,17 @@ fn bounds_what_waits(alloc: Global) -> Result<bool, AllocError> {
     let mut table = Connections::new(alloc, 1)?;
     let mut service = Numbers::new(alloc);
     let _slot = table.open(0);
+    let mut good = true;
     for _piece in 0..40_000 {
-        feed(&mut table, &mut service, 0, STATUS, 0)?;
+        good &= feed(&mut table, &mut service, 0, STATUS, 0);
     }
-    let full = table.arrive(0, STATUS, 0) == Err(ArriveFault::Full) && !table.reads(0);
-    let waits = table.waiting(0).len() == 65_540;
-    let left = table.leave(0, 10, 0) && !table.leave(0, 65_531, 0);
-    let takes = table.take(0, &mut service, 0)? == TakeResult::Request;
-    Ok(full && waits && left && takes && table.waiting(0).len() == 65_540)
+    good &= table.arrive(0, STATUS, 0) == Err(ArriveFault::Full) && !table.reads(0);
+    good &= table.waiting(0).len() == 65_540;
+    good &= table.leave(0, 10, 0) && !table.leave(0, 65_531, 0);
+    good &= matches!(table.take(0, &mut service, 0), Ok(TakeResult::Request));
+    good &= table.waiting(0).len() == 65_540;
+    drop(table);
+    Ok(good)
 }
 
 #[test]
@@ -137,18 +145,19 @@ fn timely(alloc: Global) -> Result<bool, AllocError> {
     let mut table = Connections::new(alloc, 1)?;
     let mut service = Numbers::new(alloc);
     let _slot = table.open(0);
-    let silent = !table.is_late(0, &times, 29_999) && table.is_late(0, &times, 30_000);
-    feed(&mut table, &mut service, 0, b"\x00\x20\x00\x02\x02", 1000)?;
-    feed(&mut table, &mut service, 0, b"\x11", 5000)?;
+    let mut good = !table.is_late(0, &times, 29_999) && table.is_late(0, &times, 30_000);
+    good &= feed(&mut table, &mut service, 0, b"\x00\x20\x00\x02\x02", 1000);
+    good &= feed(&mut table, &mut service, 0, b"\x11", 5000);
     // Two mebibytes are announced: two seconds more, and none for the second piece.
-    let slow = !table.is_late(0, &times, 7999) && table.is_late(0, &times, 8000);
+    good &= !table.is_late(0, &times, 7999) && table.is_late(0, &times, 8000);
     let _closed = table.close(0);
     let _slot = table.open(10_000);
-    feed(&mut table, &mut service, 0, STATUS, 11_000)?;
-    let unread = !table.is_late(0, &times, 15_999) && table.is_late(0, &times, 16_000);
-    let left = table.leave(0, 10, 15_000);
-    let idle = !table.is_late(0, &times, 44_999) && table.is_late(0, &times, 45_000);
-    Ok(silent && slow && unread && left && idle)
+    good &= feed(&mut table, &mut service, 0, STATUS, 11_000);
+    good &= !table.is_late(0, &times, 15_999) && table.is_late(0, &times, 16_000);
+    good &= table.leave(0, 10, 15_000);
+    good &= !table.is_late(0, &times, 44_999) && table.is_late(0, &times, 45_000);
+    drop(table);
+    Ok(good)
 }
 
 #[test]
@@ -164,13 +173,15 @@ fn roomy(alloc: Global) -> Result<bool, AllocError> {
     for moment in 0..3 {
         let _slot = table.open(moment);
     }
-    let full = table.open(9).is_none();
-    feed(&mut table, &mut service, 0, b"\x00", 9)?;
-    let second = table.idlest() == Some(1);
-    feed(&mut table, &mut service, 1, STATUS, 9)?;
-    let third = table.idlest() == Some(2);
-    feed(&mut table, &mut service, 2, b"\x00", 9)?;
-    Ok(full && second && third && table.idlest().is_none())
+    let mut good = table.open(9).is_none();
+    good &= feed(&mut table, &mut service, 0, b"\x00", 9);
+    good &= table.idlest() == Some(1);
+    good &= feed(&mut table, &mut service, 1, STATUS, 9);
+    good &= table.idlest() == Some(2);
+    good &= feed(&mut table, &mut service, 2, b"\x00", 9);
+    good &= table.idlest().is_none();
+    drop(table);
+    Ok(good)
 }
 
 #[test]
@@ -179,32 +190,22 @@ fn the_idlest_makes_room(rt: HostRuntime) -> Result<(), Fail> {
     Ok(())
 }
 
-/// Has a piece come on a slot that takes it. An error where memory was refused.
-fn reach(table: &mut Connections, piece: &[u8]) -> Result<(), AllocError> {
-    if arrive(table, 0, piece, 0) {
-        Ok(())
-    } else {
-        Err(AllocError)
-    }
-}
-
 /// A connection is opened, asks, is answered and closed, by the calls that a loop keeps.
 fn serves_one_connection(alloc: Global) -> Result<bool, AllocError> {
     let mut table = Connections::new(alloc, 2)?;
     let mut service = Numbers::new(alloc);
-    let opened = open(&mut table, 0) == Some(0) && table.slots() == 2;
-    reach(&mut table, b"\x00\x00\x00\x02")?;
-    let held = table.octets_held(0).len() == 4 && table.waiting(0).is_empty();
-    reach(&mut table, b"\x02\x15")?;
+    let mut good = open(&mut table, 0) == Some(0) && table.slots() == 2;
+    good &= arrive(&mut table, 0, b"\x00\x00\x00\x02", 0);
+    good &= table.octets_held(0).len() == 4 && table.waiting(0).is_empty();
+    good &= arrive(&mut table, 0, b"\x02\x15", 0);
     let (taken, had_memory) = take_some(&mut table, 0, &mut service, 64, 0);
-    if !had_memory {
-        return Err(AllocError);
-    }
-    let said = taken == 1 && table.waiting(0) == PREFIX_0 && table.octets_held(0).is_empty();
-    let left = leave(&mut table, 0, PREFIX_0.len(), 0) && table.waiting(0).is_empty();
-    let closed = close(&mut table, 0) && !close(&mut table, 2);
-    let refused = !arrive(&mut table, 0, STATUS, 0) && !arrive(&mut table, 1, STATUS, 0);
-    Ok(opened && held && said && left && closed && refused)
+    good &= taken == 1 && had_memory;
+    good &= table.waiting(0) == PREFIX_0 && table.octets_held(0).is_empty();
+    good &= leave(&mut table, 0, PREFIX_0.len(), 0) && table.waiting(0).is_empty();
+    good &= close(&mut table, 0) && !close(&mut table, 2);
+    good &= !arrive(&mut table, 0, STATUS, 0) && !arrive(&mut table, 1, STATUS, 0);
+    drop(table);
+    Ok(good)
 }
 
 #[test]
