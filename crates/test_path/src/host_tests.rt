@@ -3,8 +3,8 @@
 use crate::pem_samples::CERTIFICATE;
 use std::test::Fail;
 use ts_cert::Cert;
-use ts_host::{Host, HostFault, is_for};
 use ts_pem::read_certificates;
+use ts_verify::{Host, HostFault, is_for};
 
 /// Hosts, and whether the certificate is for them.
 const HOSTS: &[(&str, bool)] = &[

@@ -6,8 +6,8 @@ use ts_cert::Cert;
 use ts_check::NativeCheck;
 use ts_crl::Crl;
 use ts_pem::{read_certificates, read_crls};
+use ts_revoke::{Doubt, vouch};
 use ts_time::Moment;
-use ts_vouch::{Doubt, vouch};
 
 /// A certificate of CN=CA, whose key signed the CRL.
 const CA: &str =

@@ -1,7 +1,7 @@
 -- Tables that are borrowed, and what path validation is asked over them.
 use Rattle.std.proofs.Common.{◌≡◌, ◌<◌, ◌∷◌, ℕ, zero, suc, List, [], map, length, Some, slice_get, slice_index_or, refl, ap, arith}
-use Rattle.ts_history.specs.Contents.{Contents, anchor_in, contents_of}
-use Rattle.ts_history.specs.declared.snapshot.BorrowedAnchor.{BorrowedAnchor}
+use Rattle.ts_store.specs.Contents.{Contents, anchor_in, contents_of}
+use Rattle.ts_store.specs.declared.snapshot.BorrowedAnchor.{BorrowedAnchor}
 use Rattle.ts_store.specs.Tables.{Tables}
 use Rattle.ts_answer.specs.Asked.{lists_in}
 

@@ -3,7 +3,7 @@ use Rattle.std.proofs.Common.{◌≡◌, ◌∙◌, ◌++◌, ◌∷◌, ℕ, Li
 use Rattle.std.proofs.lemmas.List.{take-map}
 use Rattle.ts_command.specs.declared.command.Command.{Command}
 use Rattle.ts_command.specs.declared.outcome.Outcome.{Outcome}
-use Rattle.ts_history.specs.Outcome.{outcome_after}
+use Rattle.ts_store.specs.Outcome.{outcome_after}
 use Rattle.ts_question.specs.Rows.{command_encoding}
 use Rattle.ts_listing.specs.Log.{command_row, log_from, log_of, log_rows}
 use Rattle.ts_listing.specs.View.{line_in}

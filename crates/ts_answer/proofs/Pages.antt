@@ -30,8 +30,8 @@ use Rattle.ts_command.specs.declared.command.Command.TheVariants.{AddAnchor, Wit
 use Rattle.ts_store.specs.declared.ids.FirstCommand.{FirstCommand}
 use Rattle.ts_command.specs.declared.outcome.Outcome.{Outcome}
 use Rattle.ts_command.specs.declared.outcome.Refusal.{Refusal}
-use Rattle.ts_history.specs.Outcome.{outcome_after}
-use Rattle.ts_history.specs.Contents.{Contents, contents_of}
+use Rattle.ts_store.specs.Outcome.{outcome_after}
+use Rattle.ts_store.specs.Contents.{Contents, contents_of}
 use Rattle.ts_listing.specs.Listing.{anchor_row, anchor_rows, crl_row, crl_rows, first_octets, listing, store_rows}
 use Rattle.ts_listing.specs.Log.{about_of, command_row, log_from, log_rows}
 use Rattle.ts_listing.specs.Page.{page}

@@ -23,8 +23,8 @@ use Rattle.ts_command.specs.declared.outcome.Outcome.{Outcome}
 use Rattle.ts_command.specs.declared.outcome.Refusal.{Refusal}
 use Rattle.ts_store.proofs.Held.{is-kept}
 use Rattle.ts_store.proofs.Steps.{held, kept, joined}
-use Rattle.ts_history.specs.Outcome.{outcome_after}
-use Rattle.ts_history.proofs.Replays.{store_more, taken_all}
+use Rattle.ts_store.specs.Outcome.{outcome_after}
+use Rattle.ts_store.proofs.Replays.{store_more, taken_all}
 
 -- ---- ids
 

@@ -13,7 +13,7 @@ use Rattle.ts_question.specs.Reply.{NumberedReply}
 use Rattle.ts_command.specs.Commands.{id_of}
 use Rattle.ts_command.specs.declared.command.Command.{Command}
 use Rattle.ts_command.specs.declared.outcome.Outcome.{Outcome}
-use Rattle.ts_history.specs.Outcome.{outcome_after}
+use Rattle.ts_store.specs.Outcome.{outcome_after}
 use Rattle.ts_answer.specs.Machine.{IsAnswer}
 
 -- two questions ask the same, apart from whether k is written or is the prefix

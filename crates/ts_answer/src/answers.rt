@@ -2,7 +2,7 @@
 
 ghost use Rattle.std.specs.Prelude.{◌≡◌, ◌<◌, ◌≤◌, ◌++◌, ◌∷◌, [], ℕ, List, length, take, Ok, IfOk};
 ghost use Rattle.std.specs.Prelude.{OnOk, OnErr, true, is_ok};
-ghost use Rattle.ts_history.specs.Outcome.{outcome_after};
+ghost use Rattle.ts_store.specs.Outcome.{outcome_after};
 ghost use Rattle.ts_store.specs.Ids.{first_of};
 ghost use Rattle.ts_store.specs.Store.{store_after};
 ghost use Rattle.ts_question.specs.declared.reply.Reply.TheVariants.{NotYet};
@@ -19,11 +19,10 @@ use crate::judging::reply_over;
 use std::alloc::{AllocError, Global};
 use std::marker::Model;
 use ts_command::{Command, Outcome};
-use ts_history::History;
 use ts_listing::{Entry, log_page, purposes_of};
 use ts_question::{Answer, Question, Reply, Target};
 use ts_sig::SignatureCheck;
-use ts_store::FirstCommand;
+use ts_store::{FirstCommand, History};
 
 /// A trust store that keeps the commands that it took, each with what it came to, and answers
 /// questions after any number of them. It caches the answers that were given last.

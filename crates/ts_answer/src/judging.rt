@@ -7,7 +7,7 @@ ghost use Rattle.ts_path.specs.View.{anchor_in};
 ghost use Rattle.ts_search.specs.Search.{IsSearchAnswer};
 ghost use Rattle.ts_question.specs.declared.question.Target.TheVariants.{Chain, Search};
 ghost use Rattle.ts_constraint.specs.View.{bases_in};
-ghost use Rattle.ts_history.specs.Contents.{contents_of};
+ghost use Rattle.ts_store.specs.Contents.{contents_of};
 ghost use Rattle.ts_store.specs.Store.{store_after};
 ghost use Rattle.ts_store.specs.Tables.{Tables};
 ghost use Rattle.ts_command.specs.declared.command.Command.{Command};
@@ -27,7 +27,6 @@ use crate::verdicts::{malformed_reply, reply_of_search, reply_of_verdict};
 use std::alloc::{AllocError, Global};
 use ts_cert::Cert;
 use ts_der::OidRef;
-use ts_history::Snapshot;
 use ts_listing::store_page;
 use ts_name::Subtree;
 use ts_path::{Anchor, Inputs, Verdict, validate};
@@ -35,6 +34,7 @@ use ts_question::{OctetStrings, Question, Reply, Target, Terms};
 use ts_revoke::Crls;
 use ts_search::{SearchAnswer as SearchAnswer, search};
 use ts_sig::SignatureCheck;
+use ts_store::Snapshot;
 use ts_time::Moment;
 
 /// The inputs of path validation that a question's terms say, of which policies and subtrees were

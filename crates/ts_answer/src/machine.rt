@@ -2,7 +2,7 @@
 
 ghost use Rattle.std.specs.Prelude.{◌≡◌, ◌<◌, ◌≤◌, ◌++◌, ◌∷◌, [], IfOk, OnOk, OnErr, length, take};
 ghost use Rattle.ts_command.specs.Commands.{id_of};
-ghost use Rattle.ts_history.specs.Outcome.{outcome_after};
+ghost use Rattle.ts_store.specs.Outcome.{outcome_after};
 ghost use Rattle.ts_answer.specs.Machine.{IsAnswer};
 
 use crate::answers::Answers;

@@ -2,7 +2,7 @@
 
 ghost use Rattle.std.specs.Prelude.{◌≡◌, map, option_map, IfOk};
 ghost use Rattle.ts_crl.specs.ListView.{crl_in};
-ghost use Rattle.ts_history.specs.Contents.{anchor_in as borrowed_in};
+ghost use Rattle.ts_store.specs.Contents.{anchor_in as borrowed_in};
 ghost use Rattle.ts_path.specs.View.{anchor_in};
 ghost use Rattle.ts_answer.specs.Asked.{lists_in, trust_anchor};
 ghost use Rattle.ts_answer.specs.Reply.{with_id};
@@ -11,9 +11,8 @@ ghost use Rattle.ts_answer.specs.inside.Trusted.{trusted_in};
 use crate::trusted::TrustedAnchor;
 use std::alloc::{AllocError, Global};
 use ts_crl::Crl;
-use ts_history::BorrowedAnchor;
 use ts_path::Anchor;
-use ts_store::StoredCrl;
+use ts_store::{BorrowedAnchor, StoredCrl};
 
 /// The CRLs, borrowed. None is read again.
 pub(crate) fn lists_of<'a>(

@@ -1,15 +1,15 @@
 //! Trust anchors of a store, as path validation borrows them.
 
 ghost use Rattle.std.specs.Prelude.{◌≡◌, ◌≤◌, Some, None, length, map, take, option_map, IfOk};
-ghost use Rattle.ts_history.specs.Contents.{anchor_in as borrowed_in};
+ghost use Rattle.ts_store.specs.Contents.{anchor_in as borrowed_in};
 ghost use Rattle.ts_path.specs.View.{anchor_in};
 ghost use Rattle.ts_answer.specs.Asked.{trust_anchor};
 
 use std::alloc::{AllocError, Global};
 use ts_cert::Cert;
 use ts_command::MAX_PURPOSES;
-use ts_history::BorrowedAnchor;
 use ts_path::Anchor;
+use ts_store::BorrowedAnchor;
 
 /// A trust anchor's certificate, and the content octets of its purposes, which are at most 16, if
 /// it is not trusted for any.

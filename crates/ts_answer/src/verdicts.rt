@@ -2,7 +2,7 @@
 
 ghost use Rattle.std.specs.Prelude.{◌≡◌, ◌<◌, suc, true, Some, map, slice_get, length, IfOk};
 ghost use Rattle.std.specs.List.{AllByRecursion};
-ghost use Rattle.ts_history.specs.Contents.{anchor_in as borrowed_in};
+ghost use Rattle.ts_store.specs.Contents.{anchor_in as borrowed_in};
 ghost use Rattle.ts_question.specs.Reply.{are_countable};
 ghost use Rattle.ts_answer.specs.Parts.{unreadable};
 ghost use Rattle.ts_answer.specs.inside.Ranges.{AreFew, InRange, IsAmong, IsSayable};
@@ -11,11 +11,11 @@ ghost use Rattle.ts_answer.specs.Reply.{malformed_reply as malformed_of};
 
 use std::alloc::{AllocError, Global};
 use ts_der::{Oid, OidRef};
-use ts_history::BorrowedAnchor;
 use ts_path::Verdict;
 use ts_question::{Oids, Places, Reply};
 use ts_search::SearchAnswer as SearchAnswer;
 use ts_shape::CertFault;
+use ts_store::BorrowedAnchor;
 
 /// The reply to a question of which a part can't be read.
 pub(crate) fn malformed_reply(index: u8, fault: CertFault) -> Reply

@@ -2,3 +2,4 @@ mod Saying
 mod Encodings
 mod Subcommands
 mod Addresses
+pub mod Parsing

@@ -7,7 +7,7 @@ use Rattle.clap.specs.Walk.{Text}
 use Rattle.clap.specs.Simple.{App}
 use Rattle.clap.specs.declared.error.Error.{Error}
 use Rattle.clap.specs.declared.error.kind.ErrorKind.TheVariants as kind
-use Rattle.ts_usage.specs.Shapes.{program, commands, questions}
+use Rattle.ts_cli.specs.Shapes.{program, commands, questions}
 use Rattle.ts_cli.specs.declared.fault.CommandFault.{CommandFault}
 use Rattle.ts_cli.specs.declared.fault.CommandFault.TheVariants.{Memory, NotText, Words, Value}
 use Rattle.ts_cli.specs.declared.group.Group.{Group}

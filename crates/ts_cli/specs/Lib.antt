@@ -7,3 +7,4 @@ pub mod Serving
 pub mod Verifying
 pub mod Syncing
 pub mod Reaching
+pub mod Shapes

@@ -8,12 +8,15 @@ ghost use Rattle.clap.specs.Words.{fault_of};
 ghost use Rattle.ts_cli.specs.declared.fault.CommandFault.TheVariants.{Memory};
 ghost use Rattle.ts_cli.specs.CommandLine.{AskForLab, faults_in};
 ghost use Rattle.ts_cli.specs.Says.{Asks, AsksFor, IsInRange};
-ghost use Rattle.ts_usage.specs.Shapes as shapes;
+ghost use Rattle.ts_cli.specs.Shapes as shapes;
 
+use crate::command_shape::commands;
 use crate::command_words::command_named;
 use crate::fault::{CommandFault, WrongValue};
 use crate::group::{Group, group_of};
+use crate::program_shape::program;
 use crate::program_task::task_named;
+use crate::question_shape::questions;
 use crate::question_words::question_named;
 use crate::task::Task;
 use clap::ArgMatches;
@@ -21,7 +24,6 @@ use std::alloc::Global;
 use std::convert::AsStr;
 use std::rt::Env;
 use std::{env, io};
-use ts_usage::{commands, program, questions};
 
 /// The task that the process's own words ask for.
 pub fn task_of_process(rt: &(impl AllocGlobal + Env)) -> Result<Task, CommandFault>

@@ -3,7 +3,7 @@ use Rattle.std.proofs.Common.{◌≡◌, ◌∙◌, ℕ, Bool, List, map, Option
 use Rattle.ts_cert.specs.Certificate.{Certificate}
 use Rattle.ts_check.specs.Native.{native_accepts}
 use Rattle.ts_crl.specs.ListView.{crl_in}
-use Rattle.ts_host.specs.declared.host.Host.{Host}
+use Rattle.ts_verify.specs.declared.host.Host.{Host}
 use Rattle.ts_path.specs.Asked.{TrustAnchor, ValidationInputs}
 use Rattle.ts_path.specs.View.{asked_under}
 use Rattle.ts_path.specs.declared.inputs.Inputs.{Inputs}

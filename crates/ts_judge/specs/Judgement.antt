@@ -1,7 +1,7 @@
 -- What a verdict without a node is, and how it is printed.
 use Rattle.std.specs.Prelude.{◌≡◌, ℕ, Bool, true, false, List, Option}
 use Rattle.ts_cert.specs.Certificate.{Certificate}
-use Rattle.ts_host.specs.declared.host.Host.{Host}
+use Rattle.ts_verify.specs.declared.host.Host.{Host}
 use Rattle.ts_path.specs.Asked.{TrustAnchor, ValidationInputs}
 use Rattle.ts_judge.specs.Fields.{IsJson, is_valid}
 use Rattle.ts_judge.specs.Text.{IsText}

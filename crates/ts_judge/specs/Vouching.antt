@@ -4,7 +4,7 @@ use Rattle.ts_cert.specs.Certificate.{Certificate}
 use Rattle.ts_check.specs.Native.{native_accepts}
 use Rattle.ts_crl.specs.Fault.{ListFault}
 use Rattle.ts_crl.specs.List.{CertificateList}
-use Rattle.ts_vouch.specs.Vouched.{doubt_of}
+use Rattle.ts_revoke.specs.Vouched.{doubt_of}
 use Rattle.ts_judge.specs.declared.vouching.CrlDoubt.{CrlDoubt}
 use Rattle.ts_judge.specs.declared.vouching.CrlDoubt.TheVariants.{NoCrl, Against}
 

@@ -17,10 +17,9 @@ use crate::reading::{Views, views_of};
 use std::alloc::{AllocError, Global};
 use ts_check::NativeCheck;
 use ts_der::OidRef;
-use ts_host::Host;
 use ts_path::Inputs;
 use ts_revoke::Crls;
-use ts_verify::{Report, verify};
+use ts_verify::{Host, Report, verify};
 
 /// What is printed of a verdict, and whether the chain is valid.
 #[derive(Debug, Drop)]

@@ -14,7 +14,7 @@
 //! - [`certificates_in`]: the certificates that octets are, one for one; else the first that breaks
 //!   a rule, with its place.
 //! - [`vouch_for`]: what speaks against the octets of a CRL that is to be loaded (`doubt_about`):
-//!   that they are no CRL, else the doubt of `ts_vouch`.
+//!   that they are no CRL, else the doubt of `vouch` (`ts_revoke`).
 //!
 //! The two lines are printable characters of ASCII, each ended by a line feed (`IsText`,
 //! `specs/Text`). The first has the words of the finding: `valid` and the policies, or `invalid`,

@@ -10,8 +10,8 @@ use std::fmt;
 use ts_cert::Cert;
 use ts_check::NativeCheck;
 use ts_crl::Crl;
+use ts_revoke::{Doubt, vouch};
 use ts_time::Moment;
-use ts_vouch::{Doubt, vouch};
 
 /// What speaks against the octets of a CRL.
 #[derive(Clone, Copy, Debug, PartialEq, Eq)]

@@ -4,8 +4,8 @@ use Rattle.std.proofs.lemmas.List.{length-map}
 use Rattle.std.specs.Borrow.{Bor}
 use Rattle.ts_store.specs.declared.anchor.TrustAnchor.{TrustAnchor}
 use Rattle.ts_store.specs.declared.stored.StoredCrl.{StoredCrl}
-use Rattle.ts_history.specs.Contents.{Contents, anchor_in}
-use Rattle.ts_history.specs.declared.snapshot.BorrowedAnchor.{BorrowedAnchor}
+use Rattle.ts_store.specs.Contents.{Contents, anchor_in}
+use Rattle.ts_store.specs.declared.snapshot.BorrowedAnchor.{BorrowedAnchor}
 use Rattle.ts_question.specs.declared.reply.Reply.TheVariants.{Page}
 use Rattle.ts_question.specs.Rows.{anchor_encoding, crl_encoding}
 use Rattle.ts_listing.specs.Listing.{anchor_row, anchor_rows, crl_row, crl_rows, narrow, store_rows}

@@ -2,7 +2,7 @@
 use Rattle.std.proofs.Common.{◌≡◌, ◌∙◌, ◌++◌, ◌∷◌, ℕ, zero, suc, List, [], take, length, refl, sym, ap, append_assoc}
 use Rattle.std.proofs.lemmas.List.{append-nil}
 use Rattle.ts_command.specs.declared.command.Command.{Command}
-use Rattle.ts_history.specs.Outcome.{outcome_after}
+use Rattle.ts_store.specs.Outcome.{outcome_after}
 use Rattle.ts_question.specs.Rows.{CommandLine}
 use Rattle.ts_listing.specs.Log.{command_row, log_from}
 

@@ -15,7 +15,7 @@ use Rattle.ts_store.specs.Lists.{list_in}
 use Rattle.ts_store.specs.Store.{StoreState}
 use Rattle.ts_store.specs.declared.anchor.TrustAnchor.{TrustAnchor}
 use Rattle.ts_store.specs.declared.stored.StoredCrl.{StoredCrl}
-use Rattle.ts_history.specs.Contents.{Contents, contents_of}
+use Rattle.ts_store.specs.Contents.{Contents, contents_of}
 use Rattle.ts_question.specs.Rows.{AnchorLine, CrlLine, anchor_encoding, crl_encoding}
 
 -- octets, of which those behind the first 4,096 are left out

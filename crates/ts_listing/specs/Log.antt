@@ -8,7 +8,7 @@ use Rattle.ts_command.specs.declared.command.Command.TheVariants.{WithdrawAnchor
 use Rattle.ts_command.specs.declared.outcome.Outcome.{Outcome}
 use Rattle.ts_command.specs.declared.outcome.Outcome.TheVariants.{Applied, Repeated, Refused}
 use Rattle.ts_command.specs.Outcomes.{refusal_code}
-use Rattle.ts_history.specs.Outcome.{outcome_after}
+use Rattle.ts_store.specs.Outcome.{outcome_after}
 use Rattle.ts_question.specs.Rows.{CommandLine, command_encoding}
 use Rattle.ts_listing.specs.Listing.{first_octets, narrow}
 

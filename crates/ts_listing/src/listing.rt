@@ -1,7 +1,7 @@
 //! What a store holds.
 
 ghost use Rattle.std.specs.Prelude.{◌≡◌, ◌++◌, map, IfOk, OnOk};
-ghost use Rattle.ts_history.specs.Contents.{anchor_in};
+ghost use Rattle.ts_store.specs.Contents.{anchor_in};
 ghost use Rattle.ts_question.specs.Rows.{anchor_encoding};
 ghost use Rattle.ts_listing.specs.Listing.{anchor_row, anchor_rows, crl_rows, store_rows};
 ghost use Rattle.ts_listing.specs.Page.{page};
@@ -11,9 +11,8 @@ use crate::digests::is_digest;
 use crate::page::{MAX_ROWS, cut, total_of, window};
 use crate::purposes::purposes_octets;
 use std::alloc::{AllocError, Global};
-use ts_history::{BorrowedAnchor, Snapshot};
 use ts_question::{AnchorRow, OctetStrings, Reply};
-use ts_store::StoredCrl;
+use ts_store::{BorrowedAnchor, Snapshot, StoredCrl};
 
 /// The octets of the row of an anchor.
 fn anchor_octets(alloc: Global, anchor: &BorrowedAnchor<'_>) -> Result<Vec<u8>, AllocError>

@@ -11,10 +11,10 @@ use std::io::Print;
 use std::rt::{Clock, Files};
 use ts_cli::VerifyWords;
 use ts_der::Oid;
-use ts_host::Host;
 use ts_judge::{GivenChain, GivenFault, VerifyOptions, judge};
 use ts_show::Kind;
 use ts_time::Moment;
+use ts_verify::Host;
 
 /// The moment that is asked about: the one that is given, else that of the clock.
 fn moment_of<R: Clock>(rt: &R, words: &VerifyWords) -> Result<Moment, TaskFault> {

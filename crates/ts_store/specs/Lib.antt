@@ -4,3 +4,6 @@ pub mod Ids
 pub mod Lists
 pub mod Store
 pub mod Tables
+pub mod Contents
+pub mod Outcome
+pub mod inside

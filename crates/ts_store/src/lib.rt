@@ -34,25 +34,57 @@
 //!
 //! Out of memory is answered as `AllocError`.
 //!
+//! # The tables after any number of commands
+//!
+//! The tables of a trust store after any number of its commands.
+//!
+//! ```text
+//! let mut history = History::new(alloc);
+//! // Applied, Repeated(position) or Refused(why)
+//! let outcome = history.push(&command)?;
+//! let now = Snapshot::of(alloc, history.tables())?;  // borrows the tables after all commands
+//! // borrows the tables after the first k commands
+//! let then = history.at(alloc, k)?;
+//! ```
+//!
+//! A history keeps beside each command which place of which table the command changed. The tables
+//! after the first k commands are made by k such changes of lists of references: no certificate and
+//! no CRL is read again, hashed or copied, and no slot is searched. A CRL is borrowed with its id.
+//!
+//! - [`History::new`], [`History::count`]: no commands; how many were taken.
+//! - [`History::push`]: `outcome`: that of the store's definition; `pushed`; `refused`: at an error
+//!   nothing changes.
+//! - [`History::first`]: the first command of an id, and what it came to.
+//! - [`History::tables`], [`Snapshot::of`]: the tables after all commands.
+//! - [`History::at`]: the tables after the first k commands.
+//! - [`Snapshot::anchors`], [`Snapshot::complete`], [`Snapshot::deltas`]: what tables hold
+//!   (`specs/Contents`).
+//!
 //! # Not promised
 //!
-//! Only tested: that the calls that take memory succeed when there is enough. Neither proved nor
-//! tested: time.
+//! Only tested: that the calls that take memory succeed when there is enough (`test_answer` asks a
+//! question after each number of 1,100 commands). Neither proved nor tested: time.
 #![tactic(auto)]
 
 mod anchor;
 mod anchors;
+mod history;
 mod ids;
 pub mod laws;
 mod lists;
+mod placing;
+mod snapshot;
 mod store;
 mod stored;
 mod tables;
+mod taken;
 
 pub use anchor::TrustAnchor;
 pub use anchors::{Anchors, MAX_ANCHORS, digest, place_of_anchor};
+pub use history::History;
 pub use ids::FirstCommand;
 pub use lists::{Crls, MAX_CRLS, place_of_crl, place_of_slot};
+pub use snapshot::{BorrowedAnchor, Snapshot};
 pub use store::Store;
 pub use stored::StoredCrl;
 pub use tables::Tables;

@@ -3,3 +3,5 @@ pub mod Lines
 pub mod Judged
 pub mod Report
 pub mod inside
+pub mod Matching
+pub mod Hosts

@@ -5,8 +5,8 @@ use Rattle.ts_ext.specs.declared.known.Known.TheVariants.{SubjectAltName}
 use Rattle.ts_cert.specs.Certificate.{Certificate}
 use Rattle.ts_cert.specs.CertView.{cert_in}
 use Rattle.ts_cert.specs.Stated.{stated_value}
-use Rattle.ts_host.specs.Hosts.{IsFor}
-use Rattle.ts_host.specs.declared.host.Host.{Host}
+use Rattle.ts_verify.specs.Hosts.{IsFor}
+use Rattle.ts_verify.specs.declared.host.Host.{Host}
 use Rattle.ts_path.specs.Asked.{TrustAnchor, ValidationInputs}
 use Rattle.ts_path.specs.declared.verdict.Verdict.{Verdict}
 use Rattle.ts_path.specs.declared.verdict.Verdict.TheVariants as verdict

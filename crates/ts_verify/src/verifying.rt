@@ -6,12 +6,13 @@ ghost use Rattle.ts_cert.specs.CertView.{cert_in};
 ghost use Rattle.ts_path.specs.View.{anchor_in, asked_under};
 ghost use Rattle.ts_verify.specs.Report.{IsForAsked, IsReport, IsReportOn, Says, search_with};
 
+use crate::host::Host;
 use crate::judging::{JudgedChain, judge};
 use crate::leaf::leaf_first;
+use crate::presented::is_for;
 use crate::report::{Finding, Report};
 use std::alloc::{AllocError, Global};
 use ts_cert::Cert;
-use ts_host::{Host, is_for};
 use ts_path::{Anchor, Inputs, Verdict};
 use ts_revoke::Crls;
 use ts_sig::SignatureCheck;

@@ -1,6 +1,6 @@
 use Rattle.std.proofs.Common.{◌∙◌, map, subst, sym, ap, Option, option_map}
 use Rattle.ts_cert.specs.CertView.{cert_in}
-use Rattle.ts_history.specs.Contents.{anchor_in}
+use Rattle.ts_store.specs.Contents.{anchor_in}
 use Rattle.ts_store.specs.declared.anchor.TrustAnchor.{TrustAnchor}
 use Rattle.ts_answer.specs.Reply.{IsChainReply, with_id}
 use Rattle.ts_answer.proofs.Borrowed.{anchors}

@@ -1,5 +1,5 @@
 use Rattle.std.proofs.Common.{◌≡◌, map, drop}
-use Rattle.ts_history.specs.Contents.{anchor_in}
+use Rattle.ts_store.specs.Contents.{anchor_in}
 use Rattle.ts_answer.specs.Reply.{with_id}
 use Rattle.ts_answer.proofs.store.anchor_of.Given as goal
 

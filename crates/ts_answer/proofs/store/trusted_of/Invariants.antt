@@ -1,5 +1,5 @@
 use Rattle.std.proofs.Common.{◌≡◌, map, take}
-use Rattle.ts_history.specs.Contents.{anchor_in}
+use Rattle.ts_store.specs.Contents.{anchor_in}
 use Rattle.ts_answer.specs.inside.Trusted.{trusted_in}
 use Rattle.ts_answer.specs.Asked.{trust_anchor}
 use Rattle.ts_answer.proofs.store.trusted_of.Given as goal

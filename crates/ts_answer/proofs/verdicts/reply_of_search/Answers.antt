@@ -1,6 +1,6 @@
 use Rattle.std.proofs.Common.{◌∙◌, ap, sym, subst, map, suc, length}
 use Rattle.ts_codec.proofs.Truths.{both_true}
-use Rattle.ts_history.specs.Contents.{anchor_in}
+use Rattle.ts_store.specs.Contents.{anchor_in}
 use Rattle.ts_question.specs.Reply.{are_places}
 use Rattle.ts_question.specs.declared.reply.Reply.TheVariants.{Found}
 use Rattle.ts_search.specs.declared.answer.SearchAnswer.{SearchAnswer}

@@ -4,8 +4,8 @@ use Rattle.clap.specs.Words.{App, fault_of, is_simple_and_free}
 use Rattle.clap.specs.Matches.{found_of}
 use Rattle.clap.specs.Walk.{Row, rows_of}
 use Rattle.clap.specs.Simple.{is_simple, matches_of, subcommand_of}
-use Rattle.ts_usage.specs.Shapes.{commands}
-use Rattle.ts_usage.proofs.Parsing.{commands_are_free, commands_are_simple}
+use Rattle.ts_cli.specs.Shapes.{commands}
+use Rattle.ts_cli.proofs.Parsing.{commands_are_free, commands_are_simple}
 use Rattle.ts_cli.specs.Says.{SaysCommand}
 use Rattle.ts_cli.proofs.command_line.command_task.Goals as goal
 

@@ -5,9 +5,9 @@ use Rattle.clap.specs.Words.{App, fault_of, is_simple_and_free, takes}
 use Rattle.clap.specs.Matches.{found_of}
 use Rattle.clap.specs.Walk.{Text, rows_of}
 use Rattle.clap.specs.Simple.{is_simple, matches_of, subcommand_of}
-use Rattle.ts_usage.specs.Shapes.{program}
+use Rattle.ts_cli.specs.Shapes.{program}
 use Rattle.ts_cli.proofs.Saying.{says_any}
-use Rattle.ts_usage.proofs.Parsing.{lab_is_taken, lab_is_given, program_is_free, program_is_simple, some_is}
+use Rattle.ts_cli.proofs.Parsing.{lab_is_taken, lab_is_given, program_is_free, program_is_simple, some_is}
 use Rattle.ts_cli.proofs.command_line.program_task.Goals as goal
 
 pub returns-in_err-matches-clause-lab : goal.returns-in_err-matches-clause-lab

@@ -4,8 +4,8 @@ use Rattle.clap.specs.Words.{App, fault_of, is_simple_and_free}
 use Rattle.clap.specs.Matches.{found_of}
 use Rattle.clap.specs.Walk.{rows_of}
 use Rattle.clap.specs.Simple.{is_simple, subcommand_of}
-use Rattle.ts_usage.specs.Shapes.{questions}
-use Rattle.ts_usage.proofs.Parsing.{questions_are_free, questions_are_simple}
+use Rattle.ts_cli.specs.Shapes.{questions}
+use Rattle.ts_cli.proofs.Parsing.{questions_are_free, questions_are_simple}
 use Rattle.ts_cli.proofs.command_line.question_task.Goals as goal
 
 pub returns-in-Some-clause-taken : goal.returns-in-Some-clause-taken

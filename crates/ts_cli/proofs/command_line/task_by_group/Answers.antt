@@ -2,7 +2,7 @@
 use Rattle.std.proofs.Common.{◌∙◌, ap, sym, map}
 use Rattle.clap.specs.Words.{fault_of}
 use Rattle.ts_cli.specs.CommandLine.{app_in, words_in}
-use Rattle.ts_usage.specs.Shapes.{commands, questions}
+use Rattle.ts_cli.specs.Shapes.{commands, questions}
 use Rattle.ts_cli.specs.declared.group.Group.{Group}
 use Rattle.ts_cli.proofs.command_line.task_by_group.Goals as goal
 

@@ -1,5 +1,5 @@
 use Rattle.std.proofs.Common.{◌≡◌, ◌++◌, map, take}
-use Rattle.ts_history.specs.Contents.{anchor_in}
+use Rattle.ts_store.specs.Contents.{anchor_in}
 use Rattle.ts_listing.specs.Listing.{anchor_rows}
 use Rattle.ts_listing.proofs.listing.push_anchors.Given as goal
 

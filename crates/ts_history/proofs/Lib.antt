@@ -1,3 +1,0 @@
-pub mod Borrowed
-pub mod Applied
-pub mod Replays

@@ -1,7 +1,0 @@
-use Rattle.std.proofs.Common.{◌≡◌, drop}
-use Rattle.ts_history.specs.Contents.{no_contents}
-use Rattle.ts_history.specs.inside.History.{replay}
-use Rattle.ts_history.proofs.history.replay.Given as goal
-
-abbrev pub invariant-loop-one : goal.invariant-loop-one
-invariant-loop-one l = replay l.snapshot (drop l.one-index l.taken) ≡ replay no_contents l.taken

@@ -1,3 +1,0 @@
-pub mod Contents
-pub mod Outcome
-pub mod inside

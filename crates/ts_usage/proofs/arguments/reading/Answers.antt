@@ -1,4 +1,0 @@
-use Rattle.ts_usage.proofs.arguments.reading.Goals as goal
-
-pub returns-clause-shape : goal.returns-clause-shape
-returns-clause-shape c = c.with.ensures.shape _ _ c.word-file.ensures.rule c.leaf.ensures.shape

@@ -1,8 +1,0 @@
-use Rattle.ts_usage.specs.Shapes.{load}
-use Rattle.ts_usage.proofs.command_shape.load.Goals as goal
-
-pub returns-clause-shape : goal.returns-clause-shape
-unfolding load
-returns-clause-shape c =
-    let issuers = c.with-command.ensures.shape _ _ c.options.ensures.rule c.reading-command.ensures.shape in
-    c.with.ensures.shape _ _ c.flag.ensures.rule issuers

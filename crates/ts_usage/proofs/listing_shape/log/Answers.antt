@@ -1,6 +1,0 @@
-use Rattle.ts_usage.specs.Shapes.{log}
-use Rattle.ts_usage.proofs.listing_shape.log.Goals as goal
-
-pub returns-clause-shape : goal.returns-clause-shape
-unfolding log
-returns-clause-shape c = c.with_listing.ensures.shape _ (c.with-from.ensures.shape _ _ c.option.ensures.rule c.reaching.ensures.shape)

@@ -1,8 +1,0 @@
-use Rattle.ts_usage.specs.Shapes.{keygen}
-use Rattle.ts_usage.proofs.program_shape.keygen.Goals as goal
-
-pub returns-clause-shape : goal.returns-clause-shape
-unfolding keygen
-returns-clause-shape c =
-    let role = c.with.ensures.shape _ _ c.word-role.ensures.rule c.leaf.ensures.shape in
-    c.with-2.ensures.shape _ _ c.option.ensures.rule role

@@ -1,8 +1,0 @@
-use Rattle.ts_usage.specs.Shapes.{with_verdict}
-use Rattle.ts_usage.proofs.verdict_shape.with_verdict.Goals as goal
-
-pub returns-clause-shape : goal.returns-clause-shape
-unfolding with_verdict
-returns-clause-shape c shape given =
-    let check = c.with-all.ensures.shape _ _ c.flag.ensures.rule given in
-    c.with.ensures.shape _ _ c.flag-2.ensures.rule check
