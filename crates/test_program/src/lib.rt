@@ -1,6 +1,6 @@
-//! Tests of what a client types, sends and sees: command lines and what they make, what is asked of
-//! a node and answered, over the binary protocol and over HTTP, what is shown of octets, answers,
-//! plans and listings, verdicts on files, and a record's own files.
+//! Tests of what a client types and sees: command lines and what they make, what is shown of octets,
+//! answers, plans and listings, verdicts on files, and a record's own files. What a served node
+//! answers, over the binary protocol and over HTTP, are rows of `tests/served`.
 //!
 //! In a crate of their own they are proved alone: a crate with tests is proved once more with them.
 #![tactic(auto)]
@@ -8,11 +8,7 @@
 #[cfg(test)]
 mod command_tests;
 #[cfg(test)]
-mod face_tests;
-#[cfg(test)]
 mod file_tests;
-#[cfg(test)]
-mod request_tests;
 #[cfg(test)]
 mod row_tests;
 #[cfg(test)]
