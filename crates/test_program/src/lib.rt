@@ -1,6 +1,6 @@
-//! Tests of what a client types and sees: command lines and what they make, what is shown of octets,
-//! answers, plans and listings, verdicts on files, and a record's own files. What a served node
-//! answers, over the binary protocol and over HTTP, are rows of `tests/served`.
+//! Tests of what no clause says and no row of text shows: a record's own files, the rows of a page,
+//! and streams that fail. What the program prints for a line of words, a script of the lab, octets
+//! or a request is in rows of text (`tests/`).
 //!
 //! In a crate of their own they are proved alone: a crate with tests is proved once more with them.
 #![tactic(auto)]
@@ -12,6 +12,6 @@ mod file_tests;
 #[cfg(test)]
 mod row_tests;
 #[cfg(test)]
-mod shown_tests;
+mod stream_tests;
 #[cfg(test)]
 mod verify_tests;

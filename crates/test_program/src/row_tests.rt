@@ -1,10 +1,8 @@
 //! What is printed of the rows of a page. The texts were written by hand.
 
 use std::test::Fail;
-use ts_exchange::step_line;
 use ts_line::Line;
 use ts_render::{row_fields, row_text, write_row};
-use ts_sync::{PlanStep, StepKind};
 
 /// The octets of a row, its position, its line, and its JSON object.
 const ROWS: &[(&[u8], u32, &str, &str)] = &[
@@ -76,39 +74,6 @@ fn rows_are_printed(rt: HostRuntime) -> Result<(), Fail> {
         write_row(&mut line, *place, &row)?;
         assert!(rt; line.as_slice() == text.as_bytes());
         assert_eq!(rt; row_text(rt.alloc(), *place, row)?.as_str(), *json);
-    }
-    Ok(())
-}
-
-#[test]
-fn other_octets_are_no_row(rt: HostRuntime) {
-    assert!(rt; matches!(row_fields(rt.alloc(), b""), Ok(None)));
-    assert!(rt; matches!(row_fields(rt.alloc(), b"\x04"), Ok(None)));
-}
-
-/// What a step does, the file of what it brings, and how its line begins and ends.
-const STEPS: &[(StepKind, Option<&str>, &str, &str)] = &[
-    (
-        StepKind::Add,
-        Some("roots.pem"),
-        "add abab",
-        "abab roots.pem",
-    ),
-    (StepKind::Load, Some("a\nb"), "load abab", "abab a\\x0ab"),
-    (StepKind::Drop, None, "drop abab", "abab"),
-    (StepKind::Withdraw, None, "withdraw abab", "abab"),
-];
-
-#[test]
-fn steps_are_printed(rt: HostRuntime) -> Result<(), Fail> {
-    for (kind, file, begin, end) in STEPS {
-        let step = PlanStep {
-            kind: *kind,
-            id: [0xab; 32],
-        };
-        let line = step_line(rt.alloc(), &step, *file)?;
-        assert!(rt; line.as_slice().starts_with(begin.as_bytes()));
-        assert!(rt; line.as_slice().ends_with(end.as_bytes()));
     }
     Ok(())
 }
