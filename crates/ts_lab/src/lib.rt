@@ -10,11 +10,11 @@
 //!   line by line, up to its first wrong line (`specs/Lab`, `specs/Script`, `specs/Says`); `bound`.
 //! - [`laws::one_word`]: a line that makes something is answered, or refused with one word.
 //!
-//! What the lines about nodes print, no clause says: examples show it (`node_tests.rt` of
-//! `test_lab`). That each run of them ends, is safe, changes nothing that is known by name, and
-//! is answered or refused with one of the script's words, is proved. A node of the lab is a
-//! `ts_node::Node` on two disks in memory, so that what it does is one event of the protocol's
-//! world; the lab is the network, which loses nothing and delivers what the script says.
+//! What the lines about nodes print, no clause says: examples show it (`tests/lab/nodes.rows`).
+//! That each run of them ends, is safe, changes nothing that is known by name, and is answered or
+//! refused with one of the script's words, is proved. A node of the lab is a `ts_node::Node` on two
+//! disks in memory, so that what it does is one event of the protocol's world; the lab is the
+//! network, which loses nothing and delivers what the script says.
 #![tactic(auto)]
 
 mod answer;

@@ -39,8 +39,8 @@
 //! # Not promised
 //!
 //! Only tested: worked verdicts here (one certificate; parameters that a chain of three inherits),
-//! and through scripts of `trustd lab` (`crates/test_lab/src/path_tests.rt`). Neither proved
-//! nor tested: that memory is refused only where an allocation was; time.
+//! and through scripts of `trustd lab` (`tests/lab/chains.rows`). Neither proved nor tested: that
+//! memory is refused only where an allocation was; time.
 #![tactic(auto)]
 
 mod anchor;
