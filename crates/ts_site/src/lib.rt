@@ -28,7 +28,7 @@
 //!
 //! # Not promised
 //!
-//! What pages show and ask the node for, and what is counted: `test_program`, and `tools/browser`.
+//! What pages show and ask the node for, and what is counted: `tools/browser` looks at pages.
 #![tactic(auto)]
 
 mod board;
