@@ -12,7 +12,7 @@
 //!
 //! # Not promised
 //!
-//! That a task does what its words ask for: rows of text (`tests/`) and `examples/real/day` show it.
+//! That a task does what its words ask for: rows of `tests/` and `examples/real/day` show it.
 #![tactic(auto)]
 
 mod keyed;

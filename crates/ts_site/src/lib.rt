@@ -28,7 +28,7 @@
 //!
 //! # Not promised
 //!
-//! What pages show and ask the node for, and what is counted: `tools/browser` looks at pages.
+//! What pages show and ask the node for, and what is counted. `tools/browser` looks at pages.
 #![tactic(auto)]
 
 mod board;
