@@ -6,12 +6,8 @@
 #![tactic(auto)]
 
 #[cfg(test)]
-mod command_tests;
-#[cfg(test)]
 mod file_tests;
 #[cfg(test)]
 mod row_tests;
 #[cfg(test)]
 mod stream_tests;
-#[cfg(test)]
-mod verify_tests;

@@ -54,10 +54,10 @@
 //!
 //! # Not promised
 //!
-//! Only tested: that words whose values are all right have a task, but for `trustd lab`
-//! (`lines_have_their_tasks`), and which of the wrong values is named; encodings against octets
-//! that were made by hand (`lines_have_their_encodings`). Neither proved nor tested: the texts of
-//! help and of errors; which words a process has.
+//! Only tested, by rows of `tests/words`: that words whose values are all right have a task, but
+//! for `trustd lab`, and which of the wrong values is named (`lines.rows`); encodings against
+//! octets that were made by hand (`encodings.rows`). Of the texts of help and of errors these rows
+//! show some lines; the others are neither proved nor tested, nor is which words a process has.
 #![tactic(auto)]
 
 mod arguments;
