@@ -7,7 +7,7 @@ ghost use Rattle.ts_explain.specs.Lines.{IsReasonLine, certificate_words, no_anc
 ghost use Rattle.ts_explain.specs.Lines.{section_words};
 
 use crate::sections::section;
-use crate::words::reason_words;
+use crate::words::write_why;
 use std::alloc::{AllocError, Global};
 use ts_cert::Cert;
 use ts_der::OidRef;
@@ -63,8 +63,7 @@ pub fn reason_line(
     ensures { IfOk result (IsReasonLine place count (cert_in cert.now) reason.now) }
 {
     let mut line = certificate_line(alloc, place, count, cert)?;
-    let words = reason_words(alloc, cert, reason)?;
-    line.shown(words.as_slice())?;
+    write_why(alloc, &mut line, cert, reason)?;
     write_section(&mut line, reason)?;
     Ok(line)
 }

@@ -1,21 +1,18 @@
--- Lines that begin with a certificate of a chain.
-use Rattle.std.proofs.Common.{◌≡◌, ◌-◌, ◌++◌, ◌∙◌, ℕ, List, ap, length, slice_index_or}
+-- What is so of the certificate at a place of a chain.
+use Rattle.std.proofs.Common.{◌≡◌, ◌-◌, ◌∙◌, ℕ, List, ap, slice_index_or, subst, sym}
+use Rattle.ts_cert.specs.Certificate.{Certificate}
 use Rattle.ts_cert.specs.CertView.{cert_in}
 use Rattle.ts_cert.specs.declared.certificate.Cert.{Cert}
-use Rattle.ts_explain.specs.Lines.{certificate_words}
-use Rattle.ts_judge.specs.Explained.{AtPlace, Begins}
+use Rattle.ts_judge.specs.Explained.{AtPlace}
 
 -- the certificate that was found at an index
-pub begins_at : (chain xs : List Cert) (i place n : ℕ) (cert : Cert) (line words : List ℕ)
-    → xs ≡ chain → i ≡ place - 1 → n ≡ length chain
+pub at_place : (chain xs : List Cert) (i place : ℕ) (cert : Cert) (Is : Certificate → Type 0)
+    → xs ≡ chain → i ≡ place - 1
     → ((other : Cert) → cert ≡ slice_index_or xs i other)
-    → line ≡ certificate_words place n (cert_in cert) ++ words
-    → AtPlace chain place (Begins place (length chain) line)
-begins_at chain xs i place n cert line words are at long found is below other = (
-  words,
-  is
-      ∙ (ap (λ (m : ℕ). certificate_words place m (cert_in cert) ++ words) long
-      ∙ ap (λ (c : Cert). certificate_words place (length chain) (cert_in c) ++ words)
-      (found other
-      ∙ (ap (λ (ys : List Cert). slice_index_or ys i other) are ∙ ap (λ (j : ℕ). slice_index_or chain j other) at))),
-)
+    → Is (cert_in cert)
+    → AtPlace chain place Is
+at_place chain xs i place cert Is are at found is below other =
+    subst (λ (c : Cert). Is (cert_in c))
+    (found other
+    ∙ (ap (λ (ys : List Cert). slice_index_or ys i other) are ∙ ap (λ (j : ℕ). slice_index_or chain j other) at))
+    is

@@ -1,5 +1,6 @@
 -- The second line of a report: what the finding means.
-use Rattle.std.specs.Prelude.{◌≡◌, ◌≤◌, ◌<◌, ◌-◌, ℕ, Bool, true, false, List, ◌++◌, length, codes}
+use Rattle.std.specs.Prelude.{◌≡◌, ◌⊎◌, ◌≤◌, ◌<◌, ◌-◌, ℕ, Bool, true, false, List, ◌++◌}
+use Rattle.std.specs.Prelude.{length, codes}
 use Rattle.std.specs.Prelude.{Option, Some, None, slice_index_or}
 use Rattle.std.specs.Fmt.{decimal}
 use Rattle.ts_cert.specs.Certificate.{Certificate}
@@ -7,7 +8,10 @@ use Rattle.ts_cert.specs.CertView.{cert_in}
 use Rattle.ts_cert.specs.declared.certificate.Cert.{Cert}
 use Rattle.ts_name.specs.NameView.{rdns_in}
 use Rattle.ts_line.specs.Names.{name_text}
-use Rattle.ts_explain.specs.Lines.{certificate_words}
+use Rattle.ts_der.specs.declared.oid.OidRef.{OidRef}
+use Rattle.ts_name.specs.Sameness.{canon_name}
+use Rattle.ts_reason.specs.declared.reason.Reason.{Reason}
+use Rattle.ts_explain.specs.Lines.{IsReasonLine, certificate_words, no_anchor_words}
 use Rattle.ts_verify.specs.declared.report.Finding.{Finding}
 use Rattle.ts_verify.specs.declared.report.Finding.TheVariants.{Valid, Invalid, OtherHost}
 use Rattle.ts_verify.specs.declared.report.Report.{Report}
@@ -23,10 +27,6 @@ abbrev pub AtPlace : List Cert → ℕ → (Certificate → Type 0) → Type 0
 AtPlace chain place Is = place - 1 < length chain
     → (other : Cert) → Is (cert_in (slice_index_or chain (place - 1) other))
 
--- the line begins with the certificate
-abbrev pub Begins : ℕ → ℕ → List ℕ → Certificate → Type 0
-Begins place count line c = (words : List ℕ) × (line ≡ certificate_words place count c ++ words)
-
 -- whether revocation was looked at
 abbrev pub lists_words : Bool → List ℕ
 lists_words true = codes "; no CRL at hand says that one is revoked"
@@ -38,16 +38,35 @@ valid_words r = codes "a chain of " ++ (decimal (length r.chain.items)
     ++ (codes " under the trust anchor " ++ (name_text (rdns_in r.anchor.name)
     ++ lists_words r.has_lists)))
 
--- ---- by the place of the certificate that is not good, if one is
+-- that the issuer of the first certificate is no trust anchor: it hasn't the name of the anchor
+-- that was taken (RFC 5280 7.1)
+abbrev pub NamesNoAnchor : Report → ℕ → Certificate → List ℕ → Type 0
+NamesNoAnchor r place c line = (place ≡ 1)
+    × ¬ (canon_name c.tbsCertificate.issuer ≡ canon_name (rdns_in r.anchor.name))
+    × (line ≡ certificate_words place (length r.chain.items) c ++ no_anchor_words c)
 
-abbrev pub Explains : Report → Option ℕ → List ℕ → Type 0
-Explains r None line = line ≡ valid_words r
-Explains r (Some place) line =
-    AtPlace r.chain.items place (Begins place (length r.chain.items) line)
+-- of a certificate that does not meet a condition: which one, or that its issuer is no trust anchor
+abbrev pub IsInvalidLine : Report → ℕ → Reason OidRef → List ℕ → Certificate → Type 0
+IsInvalidLine r place reason line c = NamesNoAnchor r place c line
+    ⊎ IsReasonLine place (length r.chain.items) c reason line
 
--- the subject of the certificate
+-- of a leaf that is for another host (RFC 9525 6)
+abbrev pub host_words : ℕ → Certificate → List ℕ
+host_words count c = certificate_words count count c
+    ++ codes "has no name of this host in its subjectAltName (RFC 9525 6)"
+
+-- ---- by the finding
+
+abbrev pub Explains : Report → Finding → List ℕ → Type 0
+Explains r (Valid policies) line = line ≡ valid_words r
+Explains r (Invalid place reason) line =
+    AtPlace r.chain.items place (IsInvalidLine r place reason line)
+Explains r OtherHost line = AtPlace r.chain.items (length r.chain.items)
+    (λ c. line ≡ host_words (length r.chain.items) c)
+
+-- the subject of the certificate at a place
 abbrev pub IsSubject : Report → Option ℕ → Option (List ℕ) → Type 0
 IsSubject r None subject = subject ≡ None
 IsSubject r (Some place) None = length r.chain.items ≤ place - 1
-IsSubject r (Some place) (Some subject) =
-    AtPlace r.chain.items place (λ c. subject ≡ name_text c.tbsCertificate.subject)
+IsSubject r (Some place) (Some subject) = (place - 1 < length r.chain.items)
+    × AtPlace r.chain.items place (λ c. subject ≡ name_text c.tbsCertificate.subject)

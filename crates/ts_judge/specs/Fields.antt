@@ -46,8 +46,7 @@ pub record AreFields (report : Report) (fields : VerdictFields) : Type 0 where
   pub section_is : option_map string_bytes fields.section ≡ section_in report.finding
   pub subject : IsSubject report (place_in (length report.chain.items) report.finding)
       (option_map string_bytes fields.subject)
-  pub explanation : Explains report (place_in (length report.chain.items) report.finding)
-      (string_bytes fields.explanation)
+  pub explanation : Explains report report.finding (string_bytes fields.explanation)
   pub policies : map string_bytes fields.policies.items ≡ policies_in report.finding
   pub anchor : string_bytes fields.anchor ≡ name_text (rdns_in report.anchor.name)
   pub revocation_checked : fields.revocation_checked ≡ report.has_lists

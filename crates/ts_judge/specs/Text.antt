@@ -29,5 +29,5 @@ pub record IsText (report : Report) (text : List ℕ) : Type 0 where
   pub second : List ℕ
   pub text_is : text ≡ with_line_feed (printable (words_of (length report.chain.items)
       report.finding)) ++ with_line_feed second
-  pub explains : Explains report (place_in (length report.chain.items) report.finding) second
+  pub explains : Explains report report.finding second
   pub printable : list_all is_printable second ≡ true

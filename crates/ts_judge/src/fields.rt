@@ -21,8 +21,8 @@ use ts_verify::{Finding, Report};
 
 /// The second line of the report.
 fn explanation_text(alloc: Global, report: &Report<'_>) -> Result<String, AllocError>
-    ensures { IfOk result (λ text. Explains report.now
-        (place_in (length report.now.chain.items) report.now.finding) (string_bytes text)) }
+    ensures { IfOk result (λ text. Explains report.now report.now.finding
+        (string_bytes text)) }
 {
     let line = explanation(alloc, report)?;
     line.to_text()

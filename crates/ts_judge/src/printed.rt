@@ -1,6 +1,6 @@
 //! The text of a report.
 
-ghost use Rattle.std.specs.Prelude.{◌≡◌, ◌++◌, ◌∷◌, [], List, ℕ, true, IfOk, OnOk, Some, None};
+ghost use Rattle.std.specs.Prelude.{◌≡◌, ◌++◌, ◌∷◌, [], List, ℕ, true, IfOk, OnOk};
 ghost use Rattle.std.specs.Prelude.{length, map};
 ghost use Rattle.std.specs.Prelude.{codes, string_bytes};
 ghost use Rattle.std.specs.Fmt.{decimal};
@@ -9,7 +9,9 @@ ghost use Rattle.ts_reason.specs.View.{reason_in};
 ghost use Rattle.std.specs.List.{list_all};
 ghost use Rattle.ts_line.specs.Lines.{with_line_feed, is_printable, printable};
 ghost use Rattle.ts_line.specs.Names.{dotted_form};
-ghost use Rattle.ts_judge.specs.Explained.{Explains, lists_words, place_in};
+ghost use Rattle.ts_verify.specs.declared.report.Finding.TheVariants.{OtherHost};
+ghost use Rattle.ts_judge.specs.Explained.{AtPlace, Explains, IsInvalidLine, lists_words};
+ghost use Rattle.ts_judge.specs.Explained.{valid_words};
 ghost use Rattle.ts_judge.specs.Text.{IsText, policies_text, words_of};
 
 use std::alloc::{AllocError, Global};
@@ -77,7 +79,8 @@ fn invalid_line(
     position: u8,
     reason: &Reason<OidRef<'_>>,
 ) -> Result<Line, AllocError>
-    ensures { IfOk result (Explains report.now (Some position)) }
+    ensures { IfOk result (λ line. AtPlace report.now.chain.items position
+        (IsInvalidLine report.now position reason.now line)) }
 {
     let place = position as usize;
     let chain = report.chain.as_slice();
@@ -95,7 +98,7 @@ fn invalid_line(
 
 /// The line on a leaf that is for another host.
 fn host_line(alloc: Global, report: &Report<'_>) -> Result<Line, AllocError>
-    ensures { IfOk result (Explains report.now (Some (length report.now.chain.items))) }
+    ensures { IfOk result (Explains report.now OtherHost) }
 {
     let chain = report.chain.as_slice();
     let Some(cert) = chain.last() else {
@@ -119,7 +122,7 @@ fn write_lists(line: &mut Line, has_lists: bool) -> Result<(), AllocError>
 
 /// The line on a chain that is valid.
 fn valid_line(alloc: Global, report: &Report<'_>) -> Result<Line, AllocError>
-    ensures { IfOk result (Explains report.now None) }
+    ensures { IfOk result (λ line. line ≡ valid_words report.now) }
 {
     let mut line = Line::of(alloc, b"a chain of ")?;
     line.number(report.chain.as_slice().len() as u64)?;
@@ -131,8 +134,7 @@ fn valid_line(alloc: Global, report: &Report<'_>) -> Result<Line, AllocError>
 
 /// The second line of a report, in plain words.
 pub(crate) fn explanation(alloc: Global, report: &Report<'_>) -> Result<Line, AllocError>
-    ensures { IfOk result (Explains report.now
-        (place_in (length report.now.chain.items) report.now.finding)) }
+    ensures { IfOk result (Explains report.now report.now.finding) }
 {
     match &report.finding {
         Finding::Valid(_) => valid_line(alloc, report),

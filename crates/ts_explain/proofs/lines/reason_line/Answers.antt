@@ -1,15 +1,15 @@
 use Rattle.std.proofs.Common.{◌++◌, ◌∙◌, ap, List, ℕ}
-use Rattle.ts_line.specs.Lines.{kept}
 use Rattle.ts_cert.specs.CertView.{cert_in}
 use Rattle.ts_explain.specs.Lines.{certificate_words}
-use Rattle.ts_explain.proofs.Parts.{section_shown, two_parts}
+use Rattle.ts_explain.proofs.Parts.{two_parts}
 use Rattle.ts_explain.proofs.lines.reason_line.Goals as goal
 
 pub returns : goal.returns
 returns c =
-    let words = kept c.as_slice.result.now in
-    let before = certificate_words c.args.place c.args.count (cert_in c.args.cert.now) in (
-      words,
-      two_parts before _ _ words _ (c.in_ok-shown.ensures ∙ ap (λ (t : List ℕ). t ++ words) c.in_ok-line.ensures) c.in_ok-write_section.ensures
-          ∙ ap (λ (t : List ℕ). before ++ (words ++ t)) (section_shown c.args.reason.now),
-    )
+    let why = c.in_ok-write_why.ensures in
+    let before = certificate_words c.args.place c.args.count (cert_in c.args.cert.now) in
+    record {
+      words = why.0;
+      why = why.1;
+      line_is = two_parts before _ _ why.0 _ (why.2 ∙ ap (λ (t : List ℕ). t ++ why.0) c.in_ok-line.ensures) c.in_ok-write_section.ensures;
+    }
