@@ -9,7 +9,7 @@ use Rattle.ts_line.specs.Names.{dotted_form}
 use Rattle.ts_verify.specs.declared.report.Finding.{Finding}
 use Rattle.ts_verify.specs.declared.report.Finding.TheVariants.{Valid, Invalid, OtherHost}
 use Rattle.ts_verify.specs.declared.report.Report.{Report}
-use Rattle.ts_judge.specs.Explained.{Explains, place_in}
+use Rattle.ts_judge.specs.Explained.{Explains}
 
 -- policies, each behind a space
 abbrev pub policies_text : List (List ℕ) → List ℕ

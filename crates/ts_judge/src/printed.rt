@@ -2,7 +2,7 @@
 
 ghost use Rattle.std.specs.Prelude.{◌≡◌, ◌++◌, ◌∷◌, [], List, ℕ, true, IfOk, OnOk};
 ghost use Rattle.std.specs.Prelude.{length, map};
-ghost use Rattle.std.specs.Prelude.{codes, string_bytes};
+ghost use Rattle.std.specs.Prelude.{IsTrue, codes, string_bytes};
 ghost use Rattle.std.specs.Fmt.{decimal};
 ghost use Rattle.ts_reason.specs.Printed.{reason_text};
 ghost use Rattle.ts_reason.specs.View.{reason_in};
@@ -72,6 +72,13 @@ fn words_of(alloc: Global, report: &Report<'_>) -> Result<String, AllocError>
     }
 }
 
+/// Whether a reason may be that the issuer of the first certificate is no trust anchor.
+fn is_of_anchor(position: u8, reason: &Reason<OidRef<'_>>) -> bool
+    ensures { IsTrue result → position ≡ 1 }
+{
+    position == 1 && matches!(reason, Reason::Signature | Reason::IssuerName)
+}
+
 /// The line on a certificate that does not meet a condition.
 fn invalid_line(
     alloc: Global,
@@ -87,8 +94,7 @@ fn invalid_line(
     let Some(cert) = chain.get(place.saturating_sub(1)) else {
         return Line::of(alloc, b"no certificate has this place");
     };
-    let is_first = position == 1 && matches!(reason, Reason::Signature | Reason::IssuerName);
-    if !is_first || cert.issuer().same(report.anchor.name) {
+    if !is_of_anchor(position, reason) || cert.issuer().same(report.anchor.name) {
         return reason_line(alloc, place, chain.len(), cert, reason);
     }
     let mut line = certificate_line(alloc, place, chain.len(), cert)?;

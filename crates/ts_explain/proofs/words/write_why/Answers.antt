@@ -8,11 +8,10 @@ use Rattle.ts_explain.proofs.words.write_why.Goals as goal
 pub returns-in-TooEarly : goal.returns-in-TooEarly
 returns-in-TooEarly c =
     on_ok_weaker c.write_validity.result
-    (λ m.
-    (
+    (λ m. (
       m.0,
       subst (λ r. IsWhy (cert_in c.args.cert.now) r m.0) (sym c.in-TooEarly.is)
-      (subst (λ v. IsOfMoment (codes "is not valid before ") v.not_before.moment m.0) c.validity-validity.ensures m.1),
+          (subst (λ v. IsOfMoment (codes "is not valid before ") v.not_before.moment m.0) c.validity-validity.ensures m.1),
       m.2,
     ))
     c.write_validity.ensures
@@ -20,11 +19,10 @@ returns-in-TooEarly c =
 pub returns-in-Expired : goal.returns-in-Expired
 returns-in-Expired c =
     on_ok_weaker c.write_validity-in-Expired.result
-    (λ m.
-    (
+    (λ m. (
       m.0,
       subst (λ r. IsWhy (cert_in c.args.cert.now) r m.0) (sym c.in-Expired.is)
-      (subst (λ v. IsOfMoment (codes "expired after ") v.not_after.moment m.0) c.validity-validity.ensures m.1),
+          (subst (λ v. IsOfMoment (codes "expired after ") v.not_after.moment m.0) c.validity-validity.ensures m.1),
       m.2,
     ))
     c.write_validity-in-Expired.ensures
