@@ -57,8 +57,8 @@
 //!
 //! # Not promised
 //!
-//! Only tested: that a certificate is kept when there is memory; worked certificates, cut at each
-//! length and with one octet more, and each refusal with its place (as a check of the definitions).
+//! Only tested: that a certificate is kept when there is memory; worked certificates, cut and with
+//! one octet more, and each refusal with its place (as a check of the definitions; `tests/show`).
 //! `bench/` reads the roots that Debian ships, and times it: 0.97 of webpki's time in the median of
 //! 24 runs, five of which were above 1.0, and five hard shapes above 20 times an octet of the
 //! roots, see there. Neither proved nor tested: the time that reading takes; which certificates the

@@ -45,11 +45,11 @@
 //!
 //! # Not promised
 //!
-//! Only tested: worked certificates and CRLs to the octet, with and without extensions, made by
-//! another tool; that `Memory` is answered where an allocation failed, and only there
-//! (`tools/growths/run`, no part of the gate, refuses each allocation of both makers in turn,
-//! through `trustd lab`). Neither proved nor tested: that the values of a CRL's number, base number
-//! and scope are read back as the description says them (their octets are proved).
+//! Only tested: how many octets worked certificates and CRLs have, with and without extensions, as
+//! another tool counts them (`tests/lab`); that `Memory` is answered where an allocation failed,
+//! and only there (`tools/growths/run`, no part of the gate, refuses each allocation of both makers
+//! in turn, through `trustd lab`). Neither proved nor tested: that the values of a CRL's number,
+//! base number and scope are read back as the description says them (their octets are proved).
 #![tactic(auto)]
 
 mod certificate;
