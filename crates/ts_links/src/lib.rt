@@ -50,7 +50,7 @@
 //! That a call is made: that octets which came are handed to `arrive`, those of `waiting` to a
 //! client, and late connections closed, is the loop's part (`ts_loop`). How much memory there is:
 //! at most 64 KiB and one answer wait on a connection, and one frame and what a read brings is
-//! held; the moves say so, and no clause sums it up. Tested in `test_serve`.
+//! held; the moves say so, and no clause sums it up.
 #![tactic(auto)]
 
 mod connections;

@@ -60,16 +60,10 @@
 //!
 //! # Not promised
 //!
-//! Only tested: that calls with ample memory succeed; and, as examples of the laws, a run of three
-//! nodes with two proposers and a restart in which each call of each disk fails, alone or with all
-//! after it, under each torn write (the nodes agree, and what was chosen stays chosen); and what
-//! the roles of two nodes keep over every list of at most five events (deliveries, two commands,
-//! catching up, restarts, and stops that lose a step's output) from the start, and of at most three
-//! more from two points of a run in which one command is about to be chosen, or is chosen and the
-//! other is proposed (what is learned is chosen, one command is chosen at a position, and it was
-//! submitted); and the calls of a disk in one turn. Neither proved nor tested: that anything is
-//! ever chosen; time. `handle` and `turn` have as their condition that the node is one that `open`
-//! gave or an earlier call left (`IsSound`), and that what arrives fits a record (`InputFits`).
+//! Only tested, by rows of `tests/lab` and `tests/served`: that calls with ample memory succeed.
+//! Neither proved nor tested: that anything is ever chosen; time. `handle` and `turn` have as their
+//! condition that the node is one that `open` gave or an earlier call left (`IsSound`), and that
+//! what arrives fits a record (`InputFits`).
 #![tactic(auto)]
 
 mod ahead;

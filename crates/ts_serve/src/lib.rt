@@ -41,8 +41,9 @@
 //! - [`ServerPeer::exchange`](Peer::exchange): `served`: the answers are those of `serve` to the
 //!   whole stream.
 //! - [`TcpPeer::exchange`](Peer::exchange), [`carry`]: they end, and each peer can be asked again;
-//!   what they carry and count is shown by tests. Which frames `carry` takes for what a peer gives,
-//!   and which for an answer to a message, is exact (`is_given`, `is_delivered`).
+//!   what they carry and count is shown by rows of `tests/served`. Which frames `carry` takes for
+//!   what a peer gives, and which for an answer to a message, is exact (`is_given`,
+//!   `is_delivered`).
 //!
 //! `serve` requires that the node is sound (`IsSound`), as each node that was opened is, and leaves
 //! it so. An answer that would be longer than a frame may be is written as NodeFault Memory
@@ -53,10 +54,9 @@
 //!
 //! # Not promised
 //!
-//! Only tested: what `listen`, `carry` and `TcpPeer` carry and count; that a connection that is
-//! waited for longer than a minute ends (`bench/hostile`); that calls with ample memory succeed;
-//! each octet of a stream as the last one that a reader gives or a writer takes. Neither proved nor
-//! tested: what a socket gives or takes.
+//! Only tested: what `carry` and `TcpPeer` carry and count, and that calls with ample memory
+//! succeed (`tests/served`). Neither proved nor tested: what `listen` serves, and that a connection
+//! of its that is waited for longer than a minute ends; what a socket gives or takes.
 #![tactic(auto)]
 
 mod answering;

@@ -29,7 +29,8 @@
 //!
 //! # Not promised
 //!
-//! Only tested: the octets of examples, and that calls with ample memory succeed.
+//! Only tested, by `tests/served/frames.rows`: the octets of examples, and that calls with ample
+//! memory succeed.
 #![tactic(auto)]
 
 mod fault;
