@@ -1,13 +1,11 @@
-//! The program `trustd`: reads the command line, and runs what it asks for. The tasks of a node are
-//! here: its record is made and served. Those of clients are in `ts_client`.
+//! The program `trustd`: reads the command line, and runs what it asks for. The tasks of a node are in
+//! `ts_daemon`, those of clients in `ts_client`.
 #![tactic(auto)]
 
 ghost use Rattle.std.specs.Prelude.{◌≡◌, ◌≤◌, OnErr, Ok, true, false};
 ghost use Rattle.ts_cli.specs.Says.{IsInRange};
 ghost use Rattle.ts_exchange.specs.declared.ending.Ending.TheVariants.{Well, Refused};
 
-mod grouping;
-mod programs;
 mod running;
 
 use crate::running::run;

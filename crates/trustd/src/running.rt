@@ -2,7 +2,6 @@
 
 ghost use Rattle.ts_cli.specs.Says.{IsInRange};
 
-use crate::programs::{format_record, migrate_record, serve_record};
 use std::fs::File;
 use std::io::Print;
 use std::net::{Net, TcpListener, TcpStream};
@@ -10,11 +9,12 @@ use std::random::RandomSource;
 use std::rt::{Clock, Files};
 use ts_cli::Task;
 use ts_client::well;
+use ts_daemon::{format_record, migrate_record, serve_record};
 use ts_exchange::Ending;
 use ts_offline::TaskFault;
 
-/// Runs a task of a node or of a client (`ts_client`), but the lab and a verdict without a node,
-/// which end with statuses of their own.
+/// Runs a task of a node (`ts_daemon`) or of a client (`ts_client`), but the lab and a verdict
+/// without a node, which end with statuses of their own.
 ///
 /// # Errors
 ///
