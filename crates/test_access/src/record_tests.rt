@@ -43,31 +43,35 @@ const TEN: &str = "24f38a42ea97ccd3b0e8a086bd0b365cf66dbb6fff06e33a1cb1efc40ca32
 
 const LONG: &str = "ad579c64cf59523e82cdb0e42af0e41e8c2be5bd4c1de060a1663da6eb9987b7";
 
-/// The ten records from the client.
-fn ten(alloc: Global) -> Result<Vec<u8>, GuardFault> {
-    let mut sealer = Sealer::new(&KEY, &SESSION, Direction::FromClient);
-    let mut octets = Vec::new(alloc);
-    for content in CONTENTS {
-        sealer.seal(content, &mut octets)?;
+/// Seals contents, one after another.
+fn seal_all(sealer: &mut Sealer, contents: &[&[u8]], out: &mut Vec<u8>) -> Result<(), GuardFault> {
+    for content in contents {
+        sealer.seal(content, out)?;
     }
-    Ok(octets)
+    Ok(())
 }
 
-/// The long record, as the first one.
-fn long(alloc: Global) -> Result<Vec<u8>, GuardFault> {
+/// The records of contents from the client.
+fn records(alloc: Global, contents: &[&[u8]]) -> Result<Vec<u8>, GuardFault> {
     let mut sealer = Sealer::new(&KEY, &SESSION, Direction::FromClient);
     let mut octets = Vec::new(alloc);
-    let content = vec![in alloc; b'a'; MAX_CONTENT]?;
-    sealer.seal(&content, &mut octets)?;
-    Ok(octets)
+    let sealed = seal_all(&mut sealer, contents, &mut octets);
+    drop(sealer);
+    match sealed {
+        Ok(()) => Ok(octets),
+        Err(fault) => Err(fault),
+    }
 }
 
 #[test]
 fn seals_as_another_tool_does(rt: HostRuntime) -> Result<(), Fail> {
-    for (octets, digest) in [(ten(rt.alloc()), TEN), (long(rt.alloc()), LONG)] {
-        let wanted = hex::decode(rt.alloc(), digest)?;
-        let octets = octets.unwrap_or(Vec::new(rt.alloc()));
-        assert_eq!(rt; Sha256::digest(&octets).as_slice(), wanted.as_slice());
-    }
+    let alloc = rt.alloc();
+    let wanted = hex::decode(alloc, TEN)?;
+    let octets = records(alloc, CONTENTS)?;
+    assert_eq!(rt; Sha256::digest(&octets).as_slice(), wanted.as_slice());
+    let content = vec![in alloc; b'a'; MAX_CONTENT]?;
+    let wanted = hex::decode(alloc, LONG)?;
+    let octets = records(alloc, &[content.as_slice()])?;
+    assert_eq!(rt; Sha256::digest(&octets).as_slice(), wanted.as_slice());
     Ok(())
 }

@@ -23,29 +23,38 @@ fn put<D: Disk>(disk: &mut D, alloc: Global, at: usize, octets: &[u8]) -> Result
     disk.sync()
 }
 
+/// Whether octets are written to a disk, which gives none behind that.
+fn is_written<D: Disk + Drop>(disk: D, alloc: Global, at: usize, octets: &[u8]) -> bool {
+    let mut disk = disk;
+    let is_put = put(&mut disk, alloc, at, octets).is_ok();
+    let is_read = disk.read(alloc).is_ok();
+    drop(disk);
+    is_put && !is_read
+}
+
+/// What a disk gives.
+fn octets_of<D: Disk + Drop>(disk: D, alloc: Global) -> Result<Vec<u8>, DiskFault> {
+    let mut disk = disk;
+    let octets = disk.read(alloc);
+    drop(disk);
+    octets
+}
+
 #[test]
 fn what_is_written_is_read_when_it_is_opened_again(rt: HostRuntime) -> Result<(), Fail> {
     let alloc = rt.alloc();
     let _ = fs::remove_dir_all(&rt, FOLDER);
     fs::create_dir(&rt, FOLDER)?;
     assert!(rt; open(&rt, alloc, PATH).is_err());
-    let mut disk = create(&rt, alloc, PATH)?;
-    put(&mut disk, alloc, 0, b"octets")?;
-    drop(disk);
-    let mut disk = open(&rt, alloc, PATH)?;
-    put(&mut disk, alloc, 3, b"opus, 8 arms")?;
-    // The octets are given once, before anything is written.
-    assert!(rt; matches!(disk.read(alloc), Err(DiskFault::Failed)));
-    drop(disk);
+    assert!(rt; is_written(create(&rt, alloc, PATH)?, alloc, 0, b"octets"));
+    assert!(rt; is_written(open(&rt, alloc, PATH)?, alloc, 3, b"opus, 8 arms"));
+    let all = b"octopus, 8 arms".as_slice();
+    assert_eq!(rt; fs::read(&rt, PATH)?.as_slice(), all);
+    assert_eq!(rt; octets_of(open(&rt, alloc, PATH)?, alloc)?.as_slice(), all);
     assert_eq!(rt;
-        fs::read(&rt, PATH)?.as_slice(),
-        b"octopus, 8 arms".as_slice()
+        octets_of(create(&rt, alloc, PATH)?, alloc)?.as_slice(),
+        all
     );
-    assert_eq!(rt;
-        open(&rt, alloc, PATH)?.read(alloc)?.as_slice(),
-        b"octopus, 8 arms".as_slice()
-    );
-    assert_eq!(rt; create(&rt, alloc, PATH)?.read(alloc)?.len(), 15);
     fs::remove_dir_all(&rt, FOLDER)?;
     Ok(())
 }
@@ -143,28 +152,29 @@ impl OpenFile for Patchy {
     }
 }
 
-#[test]
-fn a_short_or_interrupted_write_goes_on(rt: HostRuntime) -> Result<(), Fail> {
-    let alloc = rt.alloc();
-    let mut disk = FileDisk::new(alloc, with_ten_octets(alloc, 100, b"012abcde89")?)?;
-    put(&mut disk, alloc, 3, b"abcde")?;
-    assert_eq!(rt; disk.failures(), 0);
-    Ok(())
+/// What writing five octets behind the first three answers, and how many failures are counted.
+fn five_put(
+    alloc: Global,
+    fails_at: u64,
+    wanted: &'static [u8],
+) -> io::Result<(Result<(), DiskFault>, u64)> {
+    let mut disk = FileDisk::new(alloc, with_ten_octets(alloc, fails_at, wanted)?)?;
+    let answer = put(&mut disk, alloc, 3, b"abcde");
+    let failures = disk.failures();
+    drop(disk);
+    Ok((answer, failures))
 }
 
 #[test]
-fn a_disk_that_failed_fails_until_it_is_opened_again(rt: HostRuntime) -> Result<(), Fail> {
+fn a_short_write_goes_on_and_a_failed_one_fails(rt: HostRuntime) -> Result<(), Fail> {
     let alloc = rt.alloc();
+    assert_eq!(rt; five_put(alloc, 100, b"012abcde89")?, (Ok(()), 0));
     // The first two octets are written, and then a write fails; or a sync does.
-    for fails_at in [3, 100] {
-        let mut disk = FileDisk::new(alloc, with_ten_octets(alloc, fails_at, b"other")?)?;
-        assert_eq!(rt; put(&mut disk, alloc, 3, b"abcde"), Err(DiskFault::Failed));
-        assert_eq!(rt; disk.failures(), 1);
-        assert_eq!(rt; disk.write_at(0, b"a"), Err(DiskFault::Failed));
-        assert_eq!(rt; disk.sync(), Err(DiskFault::Failed));
-        assert!(rt; matches!(disk.read(alloc), Err(DiskFault::Failed)));
-        assert_eq!(rt; disk.failures(), 4);
-    }
+    assert_eq!(rt; five_put(alloc, 3, b"other")?, (Err(DiskFault::Failed), 1));
+    assert_eq!(rt;
+        five_put(alloc, 100, b"other")?,
+        (Err(DiskFault::Failed), 1)
+    );
     Ok(())
 }
 
