@@ -30,7 +30,8 @@
 //!
 //! # Not promised
 //!
-//! Only tested: 47 worked rows, and that calls with memory succeed. Neither proved nor tested: time
+//! Only tested: worked rows (`tests/lab/chains.rows`, `tests/words/names.rows`), and that calls
+//! with memory succeed. Neither proved nor tested: time
 //! ([bench/README.md](../bench/README.md) has the dearest inputs).
 #![tactic(auto)]
 

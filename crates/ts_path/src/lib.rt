@@ -38,9 +38,9 @@
 //!
 //! # Not promised
 //!
-//! Only tested: worked verdicts here (one certificate; parameters that a chain of three inherits),
-//! and through scripts of `trustd lab` (`tests/lab/chains.rows`). Neither proved nor tested: that
-//! memory is refused only where an allocation was; time.
+//! Only tested: worked verdicts, in scripts of `trustd lab` (`tests/lab/chains.rows`) and on files
+//! (`tests/words`). Neither proved nor tested: that memory is refused only where an allocation was;
+//! time.
 #![tactic(auto)]
 
 mod anchor;

@@ -27,9 +27,10 @@
 //!
 //! # Not promised
 //!
-//! Only tested: texts of OpenSSL, against its own DER. Neither proved nor tested: time. Each octet
-//! is looked at a bounded number of times: once for the end of its line, once for blanks, once for
-//! what the line is, and the base64 of a block once more when the block ends.
+//! Only tested: texts of OpenSSL, against its own DER (`tests/words/verify.rows`). Neither proved
+//! nor tested: time. Each octet is looked at a bounded number of times: once for the end of its
+//! line, once for blanks, once for what the line is, and the base64 of a block once more when the
+//! block ends.
 #![tactic(auto)]
 
 mod block;

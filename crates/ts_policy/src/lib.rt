@@ -38,7 +38,7 @@
 //!
 //! # Not promised
 //!
-//! Only tested: 21 worked chains, and chains of 3^8, 3^10 and 3^16 paths. Neither proved nor
+//! Only tested: worked chains, and one of 3^16 paths (`tests/lab/chains.rows`). Neither proved nor
 //! tested: time and memory (`bench/README.md` has figures).
 #![tactic(auto)]
 

@@ -24,9 +24,9 @@
 //! # Not promised
 //!
 //! That a value is kept, and found again, and for how long: a table that keeps nothing meets these
-//! clauses, and one does where memory is refused. Only tested: that a value is found, and that the
-//! one that was used longest ago goes (`crates/test_answer`). Neither: time. Who chooses octets can
-//! find some with one number; then the newer takes the place of the older.
+//! clauses, and one does where memory is refused. Not tested either: that a value is found, that
+//! the one that was used longest ago goes, and time. Who chooses octets can find some with one
+//! number; then the newer takes the place of the older.
 #![tactic(auto)]
 
 mod fingerprint;

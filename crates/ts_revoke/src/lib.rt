@@ -55,9 +55,9 @@
 //!
 //! # Not promised
 //!
-//! Only tested: worked rows, and in some of them how often a signature is checked (no contract
-//! counts calls). Neither proved nor tested: time (names of distribution points by names of a CRL's
-//! scope is a product, under the issuer's own signature).
+//! Only tested: worked rows (`tests/words/revocation.rows`). Neither proved nor tested: how often a
+//! signature is checked (no contract counts calls); time (names of distribution points by names of
+//! a CRL's scope is a product, under the issuer's own signature).
 //!
 //! That the certificates are valid: who names them trusts them. Parameters of a key that are
 //! inherited from the certificate above (RFC 5280 6.1.4 (f)) are not.

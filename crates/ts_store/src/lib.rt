@@ -62,8 +62,8 @@
 //!
 //! # Not promised
 //!
-//! Only tested: that the calls that take memory succeed when there is enough (`test_answer` asks a
-//! question after each number of 1,100 commands). Neither proved nor tested: time.
+//! Only tested: that the calls that take memory succeed when there is enough
+//! (`tests/lab/nodes.rows`, `tests/served/store.rows`). Neither proved nor tested: time.
 #![tactic(auto)]
 
 mod anchor;
