@@ -50,7 +50,7 @@ revocation_words code =
     else (if code == 10 then codes "the authority of its attributes was compromised"
     else codes "no reason is given")))))))
 
--- that no key above the certificate signed it, or that its algorithm is not checked
+-- that the key of its issuer did not sign it, or that its algorithm is not checked
 abbrev pub signature_words : Option SignatureAlgorithm → Certificate → List ℕ
 signature_words None c = codes "is signed by an algorithm that is not checked here"
 signature_words (Some algorithm) c =
