@@ -1,5 +1,5 @@
 -- The second line of a report: what the finding means.
-use Rattle.std.specs.Prelude.{◌≡◌, ◌⊎◌, ◌≤◌, ◌<◌, ◌-◌, ℕ, Bool, true, false, List, ◌++◌}
+use Rattle.std.specs.Prelude.{◌≡◌, ◌≤◌, ◌<◌, ◌-◌, ℕ, Bool, true, false, List, ◌++◌}
 use Rattle.std.specs.Prelude.{length, codes}
 use Rattle.std.specs.Prelude.{Option, Some, None, slice_index_or}
 use Rattle.std.specs.Fmt.{decimal}
@@ -11,6 +11,7 @@ use Rattle.ts_line.specs.Names.{name_text}
 use Rattle.ts_der.specs.declared.oid.OidRef.{OidRef}
 use Rattle.ts_name.specs.Sameness.{canon_name}
 use Rattle.ts_reason.specs.declared.reason.Reason.{Reason}
+use Rattle.ts_reason.specs.declared.reason.Reason.TheVariants.{Signature, IssuerName}
 use Rattle.ts_explain.specs.Lines.{IsReasonLine, certificate_words, no_anchor_words}
 use Rattle.ts_verify.specs.declared.report.Finding.{Finding}
 use Rattle.ts_verify.specs.declared.report.Finding.TheVariants.{Valid, Invalid, OtherHost}
@@ -38,17 +39,26 @@ valid_words r = codes "a chain of " ++ (decimal (length r.chain.items)
     ++ (codes " under the trust anchor " ++ (name_text (rdns_in r.anchor.name)
     ++ lists_words r.has_lists)))
 
--- that the issuer of the first certificate is no trust anchor: it hasn't the name of the anchor
--- that was taken (RFC 5280 7.1)
-abbrev pub NamesNoAnchor : Report → ℕ → Certificate → List ℕ → Type 0
-NamesNoAnchor r place c line = (place ≡ 1)
-    × ¬ (canon_name c.tbsCertificate.issuer ≡ canon_name (rdns_in r.anchor.name))
-    × (line ≡ certificate_words place (length r.chain.items) c ++ no_anchor_words c)
+-- the reasons that say that a certificate was not issued by the one above it
+abbrev pub is_of_issuer : {O : Type 0} → Reason O → Bool
+is_of_issuer Signature = true
+is_of_issuer IssuerName = true
+is_of_issuer reason = false
 
--- of a certificate that does not meet a condition: which one, or that its issuer is no trust anchor
-abbrev pub IsInvalidLine : Report → ℕ → Reason OidRef → List ℕ → Certificate → Type 0
-IsInvalidLine r place reason line c = NamesNoAnchor r place c line
-    ⊎ IsReasonLine place (length r.chain.items) c reason line
+-- the issuer of the first certificate is no trust anchor: it is refused for such a reason, and its
+-- issuer hasn't the name of the anchor that was taken (RFC 5280 7.1)
+abbrev pub IsUnderNoAnchor : Report → ℕ → Reason OidRef → Certificate → Type 0
+IsUnderNoAnchor r place reason c = (place ≡ 1) × (is_of_issuer reason ≡ true)
+    × ¬ (canon_name c.tbsCertificate.issuer ≡ canon_name (rdns_in r.anchor.name))
+
+-- of a certificate that does not meet a condition: that its issuer is no trust anchor, if that is
+-- so; which condition, if not
+pub record IsInvalidLine (r : Report) (place : ℕ) (reason : Reason OidRef) (line : List ℕ)
+    (c : Certificate) : Type 0 where
+  pub no_anchor : IsUnderNoAnchor r place reason c
+      → line ≡ certificate_words place (length r.chain.items) c ++ no_anchor_words c
+  pub condition : ¬ (IsUnderNoAnchor r place reason c)
+      → IsReasonLine place (length r.chain.items) c reason line
 
 -- of a leaf that is for another host (RFC 9525 6)
 abbrev pub host_words : ℕ → Certificate → List ℕ

@@ -20,8 +20,9 @@
 //! `specs/Text`). The first has the words of the finding: `valid` and the policies, or `invalid`,
 //! the place of a certificate, counted from the anchor's side, and the reason; `Host` is the reason
 //! of a leaf that is for another host. The second explains it (`specs/Explained`): of a valid chain
-//! how many certificates it has, under which anchor, and whether revocation was looked at; else it
-//! begins with the place and the subject of the certificate that is not good, and words follow.
+//! how many certificates it has, under which anchor, and whether revocation was looked at; else the
+//! place and the subject of the certificate that is not good, and which condition it does not meet,
+//! or that its issuer is no trust anchor, exactly where that is so.
 //!
 //! The fields of the JSON object say the finding (`IsJson`, `specs/Fields`): whether it is valid,
 //! the place, the reason and its section, the policies, whether revocation was looked at, the
@@ -29,8 +30,7 @@
 //!
 //! # Not promised
 //!
-//! Neither proved nor tested: time; which words the second line has behind a certificate, but for
-//! some lines (`ts_explain`). What `ts_verify` doesn't promise.
+//! Neither proved nor tested: time. What `ts_verify` doesn't promise.
 #![tactic(auto)]
 
 mod fault;

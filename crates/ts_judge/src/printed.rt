@@ -1,6 +1,6 @@
 //! The text of a report.
 
-ghost use Rattle.std.specs.Prelude.{◌≡◌, ◌++◌, ◌∷◌, [], List, ℕ, true, IfOk, OnOk};
+ghost use Rattle.std.specs.Prelude.{◌≡◌, ◌↔◌, ◌++◌, ◌∷◌, [], List, ℕ, true, IfOk, OnOk};
 ghost use Rattle.std.specs.Prelude.{length, map};
 ghost use Rattle.std.specs.Prelude.{IsTrue, codes, string_bytes};
 ghost use Rattle.std.specs.Fmt.{decimal};
@@ -10,11 +10,13 @@ ghost use Rattle.std.specs.List.{list_all};
 ghost use Rattle.ts_line.specs.Lines.{with_line_feed, is_printable, printable};
 ghost use Rattle.ts_line.specs.Names.{dotted_form};
 ghost use Rattle.ts_verify.specs.declared.report.Finding.TheVariants.{OtherHost};
+ghost use Rattle.ts_cert.specs.CertView.{cert_in};
 ghost use Rattle.ts_judge.specs.Explained.{AtPlace, Explains, IsInvalidLine, lists_words};
-ghost use Rattle.ts_judge.specs.Explained.{valid_words};
+ghost use Rattle.ts_judge.specs.Explained.{IsUnderNoAnchor, is_of_issuer, valid_words};
 ghost use Rattle.ts_judge.specs.Text.{IsText, policies_text, words_of};
 
 use std::alloc::{AllocError, Global};
+use ts_cert::Cert;
 use ts_der::OidRef;
 use ts_explain::{certificate_line, reason_line, write_no_anchor};
 use ts_line::{Line, write_name};
@@ -72,11 +74,24 @@ fn words_of(alloc: Global, report: &Report<'_>) -> Result<String, AllocError>
     }
 }
 
-/// Whether a reason may be that the issuer of the first certificate is no trust anchor.
-fn is_of_anchor(position: u8, reason: &Reason<OidRef<'_>>) -> bool
-    ensures { IsTrue result → position ≡ 1 }
+/// Whether a reason says that a certificate was not issued by the one above it.
+fn is_of_issuer(reason: &Reason<OidRef<'_>>) -> bool
+    ensures { result ≡ is_of_issuer reason.now }
 {
-    position == 1 && matches!(reason, Reason::Signature | Reason::IssuerName)
+    matches!(reason, Reason::Signature | Reason::IssuerName)
+}
+
+/// Whether the issuer of the first certificate is no trust anchor.
+fn is_under_no_anchor(
+    report: &Report<'_>,
+    position: u8,
+    reason: &Reason<OidRef<'_>>,
+    cert: &Cert<'_>,
+) -> bool
+    ensures { IsTrue result
+        ↔ IsUnderNoAnchor report.now position reason.now (cert_in cert.now) }
+{
+    position == 1 && is_of_issuer(reason) && !cert.issuer().same(report.anchor.name)
 }
 
 /// The line on a certificate that does not meet a condition.
@@ -94,7 +109,7 @@ fn invalid_line(
     let Some(cert) = chain.get(place.saturating_sub(1)) else {
         return Line::of(alloc, b"no certificate has this place");
     };
-    if !is_of_anchor(position, reason) || cert.issuer().same(report.anchor.name) {
+    if !is_under_no_anchor(report, position, reason, cert) {
         return reason_line(alloc, place, chain.len(), cert, reason);
     }
     let mut line = certificate_line(alloc, place, chain.len(), cert)?;

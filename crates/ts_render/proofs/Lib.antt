@@ -1,2 +1,3 @@
 mod Settings
 mod Chains
+mod Explained

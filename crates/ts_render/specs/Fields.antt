@@ -12,7 +12,8 @@ use Rattle.ts_question.specs.Reply.{NumberedReply}
 use Rattle.ts_question.specs.declared.reply.Reply.{Reply}
 use Rattle.ts_question.specs.declared.reply.Reply.TheVariants.{Valid, Invalid, Found}
 use Rattle.ts_render.specs.Replies.{name_of, position_in, prefix_in, valid_in}
-use Rattle.ts_render.specs.Texts.{IsPrintable, TellsMoment}
+use Rattle.ts_render.specs.Texts.{TellsMoment}
+use Rattle.ts_render.specs.Explanations.{IsExplanation}
 use Rattle.ts_line.specs.Names.{dotted_form}
 
 abbrev pub anchor_in : Reply → Option (List ℕ)
@@ -54,4 +55,4 @@ pub record AreFields (asked : StoreQuestion) (answered : NumberedReply) (id : Li
       ≡ map dotted_form (policies_in answered.reply)
   pub places_are : fields.places.items ≡ places_in answered.reply
   pub prefix_is : fields.prefix ≡ prefix_in answered.reply
-  pub explanation : IsPrintable (string_bytes fields.explanation)
+  pub explanation : IsExplanation asked answered.reply (string_bytes fields.explanation)

@@ -1,9 +1,10 @@
 pub mod Texts
 pub mod Outcomes
+pub mod Purposes
 pub mod Rows
 pub mod RowMembers
 pub mod Chain
 pub mod Replies
 pub mod Fields
-pub mod Line
+pub mod Explanations
 pub mod RowLines

@@ -1,17 +1,14 @@
 -- The fields of rows, by what the rows say.
-use Rattle.std.specs.Prelude.{◌≡◌, ℕ, List, [], ◌∷◌, ◌++◌, Option, Some, None, map, option_map}
-use Rattle.std.specs.Prelude.{replicate, string_bytes}
+use Rattle.std.specs.Prelude.{◌≡◌, ℕ, List, Option, option_map}
+use Rattle.std.specs.Prelude.{string_bytes}
 use Rattle.hex.specs.Hex.{encode_lower}
-use Rattle.ts_command.specs.Commands.{purposes_encoding}
 use Rattle.ts_question.specs.Rows.{AnchorLine, AnchorFits, anchor_encoding}
 use Rattle.ts_question.specs.Rows.{CrlLine, CrlFits, crl_encoding}
 use Rattle.ts_question.specs.Rows.{CommandLine, CommandFits, command_encoding}
 use Rattle.ts_command.specs.Outcomes.{outcome_words}
 use Rattle.ts_render.specs.Outcomes.{kind_word, outcome_of}
 use Rattle.ts_render.specs.Texts.{IsNameShown, IsTold, TellsMoment, hex_or_none}
-use Rattle.ts_line.specs.Names.{dotted_form}
-use Rattle.ts_render.specs.declared.rows.PurposeFields.{PurposeFields}
-use Rattle.ts_render.specs.declared.rows.PurposeFields.TheVariants.{Any, These, Unknown}
+use Rattle.ts_render.specs.Purposes.{ArePurposes, AreSet}
 use Rattle.ts_render.specs.declared.rows.AnchorFields.{AnchorFields}
 use Rattle.ts_render.specs.declared.rows.CrlFields.{CrlFields}
 use Rattle.ts_render.specs.declared.rows.CommandFields.{CommandFields}
@@ -19,28 +16,6 @@ use Rattle.ts_render.specs.declared.rows.RowFields.{RowFields}
 use Rattle.ts_render.specs.declared.rows.RowFields.TheVariants.{Anchor, Crl, Command}
 
 -- ---- trust anchors
-
--- the fields of purposes, as a command has them: none for any, or object identifiers
-abbrev pub AreTold : Option (List (List ℕ)) → PurposeFields → Type 0
-AreTold None Any = Unit {0}
-AreTold (Some oids) (These texts) = map string_bytes texts.items ≡ map dotted_form oids
-AreTold purposes fields = ⊥
-
--- the octets of a command that sets these purposes
-abbrev pub setting : List ℕ → List ℕ
-setting octets = replicate 16 0 ++ (5 ∷ (replicate 32 0 ++ octets))
-
--- the same, of octets; a row that was cut does not say them
-abbrev pub ArePurposes : List ℕ → PurposeFields → Type 0
-ArePurposes octets Unknown = Unit {0}
-ArePurposes octets fields = (purposes : Option (List (List ℕ)))
-    × (octets ≡ purposes_encoding purposes) × AreTold purposes fields
-
--- the purposes that a command sets, if it does
-abbrev pub AreSet : List ℕ → Option PurposeFields → Type 0
-AreSet [] fields = fields ≡ None
-AreSet (octet ∷ octets) None = ⊥
-AreSet (octet ∷ octets) (Some fields) = ArePurposes (octet ∷ octets) fields
 
 pub record IsAnchorRow (line : AnchorLine) (fields : AnchorFields) : Type 0 where
   pub id_is : string_bytes fields.id ≡ encode_lower line.id

@@ -1,35 +1,26 @@
 //! A reply in plain words.
 
-ghost use Rattle.std.specs.Prelude.{IfOk};
-ghost use Rattle.ts_render.specs.Line.{IsLine};
+ghost use Rattle.std.specs.Prelude.{◌≡◌, ◌++◌, IfOk, OnOk, codes, length};
+ghost use Rattle.std.specs.List.{flat_map};
+ghost use Rattle.ts_render.specs.Chain.{certificates_in};
+ghost use Rattle.ts_render.specs.Explanations.{Explains, IsEnded, IsInvalidLine, found_words};
+ghost use Rattle.ts_render.specs.Explanations.{malformed_words, not_yet_words, page_words};
+ghost use Rattle.ts_render.specs.Explanations.{place_words, valid_words};
 
+use crate::chain::certificates_in;
 use std::alloc::{AllocError, Global};
 use ts_cert::Cert;
 use ts_der::Oid;
 use ts_explain::reason_line;
 use ts_line::Line;
-use ts_question::{Question, Reply, Target};
+use ts_question::{Question, Reply};
 use ts_reason::Reason;
 
-/// The certificates of a question, if it has any.
-fn strings_of(question: &Question) -> &[Vec<u8>] {
-    match question.target() {
-        Target::Chain { certificates, .. } => certificates.as_slice(),
-        Target::Search { certificates } => certificates.as_slice(),
-        Target::Store { .. } | Target::Log { .. } => &[],
-    }
-}
-
-/// Certificates that are read, up to the first that is none.
-fn certificates_of(alloc: Global, strings: &[Vec<u8>]) -> Result<Vec<Cert<'_>>, AllocError> {
-    let mut certificates = Vec::new(alloc);
-    for octets in strings {
-        match Cert::read(octets.as_slice()) {
-            Ok(cert) => certificates.push(cert)?,
-            Err(_) => return Ok(certificates),
-        }
-    }
-    Ok(certificates)
+/// The line where no certificate has the place that a reply names.
+fn no_certificate(alloc: Global) -> Result<Line, AllocError>
+    ensures { IfOk result (λ line. line ≡ codes "no certificate has this place") }
+{
+    Line::of(alloc, b"no certificate has this place")
 }
 
 /// The line on a certificate that does not meet a condition.
@@ -38,38 +29,57 @@ fn invalid_line(
     question: &Question,
     position: u8,
     reason: &Reason<Oid>,
-) -> Result<Line, AllocError> {
-    let chain = certificates_of(alloc, strings_of(question))?;
+) -> Result<Line, AllocError>
+    ensures { IfOk result (IsInvalidLine (certificates_in question.now) position reason.now) }
+{
+    let certificates = certificates_in(question);
     let place = position as usize;
-    match chain.get(place.saturating_sub(1)) {
-        Some(cert) => reason_line(alloc, place, chain.len(), cert, &reason.as_ref()),
-        None => Line::of(alloc, b"no certificate has this place"),
-    }
+    let Some(octets) = certificates.get(place.saturating_sub(1)) else {
+        return no_certificate(alloc);
+    };
+    let Ok(cert) = Cert::read(octets) else {
+        return no_certificate(alloc);
+    };
+    reason_line(alloc, place, certificates.len(), &cert, &reason.as_ref())
 }
 
 /// The line on a chain that is valid.
-fn valid_line(alloc: Global, question: &Question, anchor: &[u8; 32]) -> Result<Line, AllocError> {
+fn valid_line(alloc: Global, count: usize, anchor: &[u8; 32]) -> Result<Line, AllocError>
+    ensures { IfOk result (λ line. line ≡ valid_words count anchor.now) }
+{
     let mut line = Line::of(alloc, b"the chain of ")?;
-    line.number(strings_of(question).len() as u64)?;
+    line.number(count as u64)?;
     line.text(b" is valid under the trust anchor ")?;
     line.hex(anchor)?;
     Ok(line)
 }
 
-/// The line on a chain that was found.
-fn found_line(alloc: Global, anchor: &[u8; 32], places: &[u8]) -> Result<Line, AllocError> {
-    let mut line = Line::of(alloc, b"valid under the trust anchor ")?;
-    line.hex(anchor)?;
-    line.text(b" are, in this order, these certificates of the question:")?;
+/// Writes places, a space before each.
+fn write_places(line: &mut Line, places: &[u8]) -> Result<(), AllocError>
+    ensures { OnOk result (line.new ≡ line.old ++ flat_map place_words places.now) }
+{
     for place in places {
         line.text(b" ")?;
         line.number(*place as u64)?;
     }
+    Ok(())
+}
+
+/// The line on a chain that was found.
+fn found_line(alloc: Global, anchor: &[u8; 32], places: &[u8]) -> Result<Line, AllocError>
+    ensures { IfOk result (λ line. line ≡ found_words anchor.now places.now) }
+{
+    let mut line = Line::of(alloc, b"valid under the trust anchor ")?;
+    line.hex(anchor)?;
+    line.text(b" are, in this order, these certificates of the question:")?;
+    write_places(&mut line, places)?;
     Ok(line)
 }
 
 /// The line on a part of the question that can't be read.
-fn malformed_line(alloc: Global, index: u8, place: u32) -> Result<Line, AllocError> {
+fn malformed_line(alloc: Global, index: u8, place: u32) -> Result<Line, AllocError>
+    ensures { IfOk result (λ line. line ≡ malformed_words index place) }
+{
     if index == 0 {
         return Line::of(
             alloc,
@@ -84,7 +94,9 @@ fn malformed_line(alloc: Global, index: u8, place: u32) -> Result<Line, AllocErr
 }
 
 /// The line on a node that knows fewer commands than are asked for.
-fn not_yet_line(alloc: Global, prefix: u32) -> Result<Line, AllocError> {
+fn not_yet_line(alloc: Global, prefix: u32) -> Result<Line, AllocError>
+    ensures { IfOk result (λ line. line ≡ not_yet_words prefix) }
+{
     let mut line = Line::of(alloc, b"the node knows ")?;
     line.number(prefix as u64)?;
     line.text(b" commands, fewer than the question is about")?;
@@ -92,7 +104,9 @@ fn not_yet_line(alloc: Global, prefix: u32) -> Result<Line, AllocError> {
 }
 
 /// The line on a page.
-fn page_line(alloc: Global, total: u32, count: usize) -> Result<Line, AllocError> {
+fn page_line(alloc: Global, total: u32, count: usize) -> Result<Line, AllocError>
+    ensures { IfOk result (λ line. line ≡ page_words count total) }
+{
     let mut line = Line::of(alloc, b"a page of ")?;
     line.number(count as u64)?;
     line.text(b" rows, of ")?;
@@ -102,9 +116,15 @@ fn page_line(alloc: Global, total: u32, count: usize) -> Result<Line, AllocError
 }
 
 /// What a reply to a question means.
-fn line_of(alloc: Global, question: &Question, reply: &Reply) -> Result<Line, AllocError> {
+///
+/// # Errors
+///
+/// Out of memory.
+pub(crate) fn line_of(alloc: Global, question: &Question, reply: &Reply) -> Result<Line, AllocError>
+    ensures { IfOk result (Explains question.now reply.now) }
+{
     match reply {
-        Reply::Valid { anchor, .. } => valid_line(alloc, question, anchor),
+        Reply::Valid { anchor, .. } => valid_line(alloc, certificates_in(question).len(), anchor),
         Reply::Invalid { position, reason } => invalid_line(alloc, question, *position, reason),
         Reply::Found { anchor, places, .. } => found_line(alloc, anchor, places.as_slice()),
         Reply::NoPath => Line::of(
@@ -132,7 +152,7 @@ fn line_of(alloc: Global, question: &Question, reply: &Reply) -> Result<Line, Al
 ///
 /// Out of memory.
 pub fn explanation(alloc: Global, question: &Question, reply: &Reply) -> Result<Vec<u8>, AllocError>
-    ensures { IfOk result (λ text. IsLine text.items) }
+    ensures { IfOk result (λ text. IsEnded question.now reply.now text.items) }
 {
     let line = line_of(alloc, question, reply)?;
     let mut text = Vec::new(alloc);

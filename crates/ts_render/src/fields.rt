@@ -7,15 +7,15 @@ ghost use Rattle.base64.specs.GeneralPurpose.{encode_of};
 ghost use Rattle.ts_question.specs.Question.{question_encoding};
 ghost use Rattle.ts_reason.specs.Printed.{reason_text};
 ghost use Rattle.ts_explain.specs.Sections.{section as section_of};
+ghost use Rattle.ts_render.specs.Explanations.{IsExplanation};
 ghost use Rattle.ts_render.specs.Fields.{AreFields, AreWords, anchor_in, places_in};
 ghost use Rattle.ts_render.specs.Fields.{policies_in};
-ghost use Rattle.ts_render.specs.Texts.{IsPrintable};
 ghost use Rattle.ts_line.specs.Names.{dotted_form};
 
-use crate::explaining::explanation;
+use crate::explaining::line_of;
 use crate::replies::{name_of, position_in, prefix_in, valid_in};
 use crate::rows::all_dotted;
-use crate::text::{moment_text, text_of};
+use crate::text::moment_text;
 use base64::engine::general_purpose::STANDARD;
 use std::alloc::{AllocError, Global};
 use ts_der::Oid;
@@ -98,15 +98,11 @@ fn places_of(alloc: Global, reply: &Reply) -> Result<Vec<u64>, AllocError>
     }
 }
 
-/// A line in plain words, without its end.
+/// What a reply to a question means, in plain words.
 fn explanation_of(alloc: Global, question: &Question, reply: &Reply) -> Result<String, AllocError>
-    ensures { IfOk result (λ text. IsPrintable (string_bytes text)) }
+    ensures { IfOk result (λ text. IsExplanation question.now reply.now (string_bytes text)) }
 {
-    let line = explanation(alloc, question, reply)?;
-    match line.as_slice() {
-        [words @ .., _] => text_of(alloc, words),
-        [] => Ok(String::new(alloc)),
-    }
+    line_of(alloc, question, reply)?.to_text()
 }
 
 /// The octets of a question, in base64.

@@ -9,7 +9,7 @@
 //! ```
 //!
 //! - [`answer_fields`]: `AreFields` (`specs/Fields`): each field says what the question, the answer
-//!   and the id say; of the explanation that it is printable.
+//!   and the id say.
 //! - [`is_final`]: whether a reply to a question that names k is for ever: all but `NotYet`.
 //!   [`valid_in`]: whether a reply says that a chain is valid, or that it isn't.
 //! - [`row_fields`]: `IsRow`, `IsNoRow` (`specs/Rows`): the fields of the row that octets are, or
@@ -18,15 +18,16 @@
 //!   person reads, of which words `specs/RowLines` says.
 //! - [`chain_fields`]: the certificates of a question, their subjects and validities, of which the
 //!   one is marked that a reply names (`specs/Chain`).
-//! - [`explanation`]: `IsLine` (`specs/Line`): what a reply means in plain words, one line of
-//!   printable characters of ASCII that is ended by a line feed.
+//! - [`explanation`]: `IsEnded` (`specs/Explanations`): what a reply means in plain words, word for
+//!   word, as one line of printable characters of ASCII that is ended by a line feed. Of a chain that
+//!   is not valid it is the line of `ts_explain` on the certificate that the reply names.
 //! - [`moment_text`]: a moment.
 //!
 //! Out of memory is the only error.
 //!
 //! # Not promised
 //!
-//! What the explanation says, of which some lines are tested, but that it is printable.
+//! Neither proved nor tested: time.
 #![tactic(auto)]
 
 mod chain;

@@ -2,8 +2,9 @@
 
 ghost use Rattle.std.specs.Prelude.{◌≡◌, ℕ, List, IfOk, MatchOption, map, option_map, string_bytes};
 ghost use Rattle.ts_question.specs.RowView.{anchor_line, command_line, crl_line};
-ghost use Rattle.ts_render.specs.Rows.{ArePurposes, IsAnchorRow, IsCommandRow, IsCrlRow, IsNoRow};
-ghost use Rattle.ts_render.specs.Rows.{AreSet, AreTold, IsRow, setting, words_of};
+ghost use Rattle.ts_render.specs.Purposes.{ArePurposes, AreSet, AreTold, AreToldBy, setting};
+ghost use Rattle.ts_render.specs.Rows.{IsAnchorRow, IsCommandRow, IsCrlRow, IsNoRow, IsRow};
+ghost use Rattle.ts_render.specs.Rows.{words_of};
 ghost use Rattle.ts_line.specs.Names.{dotted_form};
 
 use crate::outcome::{kind_word, outcome_of};
@@ -20,7 +21,7 @@ pub enum PurposeFields {
     Any,
     /// For these, in dotted form.
     These(Vec<String>),
-    /// The row is too short to say it.
+    /// The row has octets that no command may set, as where it was cut.
     Unknown,
 }
 
@@ -117,14 +118,24 @@ fn purpose_fields(alloc: Global, purposes: &Purposes) -> Result<PurposeFields, A
     }
 }
 
+/// The purposes that a command sets.
+fn purposes_by(alloc: Global, command: &Command) -> Result<PurposeFields, AllocError>
+    ensures { IfOk result (AreToldBy command.now) }
+{
+    match command {
+        Command::SetPurposes { purposes, .. } => purpose_fields(alloc, purposes),
+        _ => Ok(PurposeFields::Unknown),
+    }
+}
+
 /// The purposes that octets are, as a command has them.
 fn purposes_of(alloc: Global, octets: &[u8]) -> Result<PurposeFields, AllocError>
     ensures { IfOk result (ArePurposes octets.now) }
 {
     let command = setting(alloc, octets)?;
     match Command::read(alloc, &command)? {
-        Some(Command::SetPurposes { purposes, .. }) => purpose_fields(alloc, &purposes),
-        _ => Ok(PurposeFields::Unknown),
+        Some(command) => purposes_by(alloc, &command),
+        None => Ok(PurposeFields::Unknown),
     }
 }
 
