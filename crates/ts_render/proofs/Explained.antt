@@ -25,8 +25,8 @@ pub octets_at : (xs : List (Vec ℕ Global)) (cs : List (List ℕ)) (i place : �
     → items xs ≡ cs → i ≡ place - 1 → i < length xs → v ≡ slice_index_or xs i v → octets ≡ v.items
     → (place - 1 < length cs) × (slice_index_or cs (place - 1) [] ≡ octets)
 octets_at xs cs i place v octets are at below is same = (
-    omega (arith, at, below, lengths xs cs are),
-    ap (λ (ys : List (List ℕ)). slice_index_or ys (place - 1) []) (sym are)
-    ∙ (ap (λ (j : ℕ). slice_index_or (items xs) j []) (sym at)
-    ∙ (at_index xs i v below ∙ (ap (λ (w : Vec ℕ Global). w.items) (sym is) ∙ sym same))),
-    )
+  omega (arith, at, below, lengths xs cs are),
+  ap (λ (ys : List (List ℕ)). slice_index_or ys (place - 1) []) (sym are)
+      ∙ (ap (λ (j : ℕ). slice_index_or (items xs) j []) (sym at)
+      ∙ (at_index xs i v below ∙ (ap (λ (w : Vec ℕ Global). w.items) (sym is) ∙ sym same))),
+)
