@@ -1,5 +1,5 @@
-//! The program `trustd`: reads the command line, and runs what it asks for. The tasks of a node are in
-//! `ts_daemon`, those of clients in `ts_client`.
+//! The program `trustd`: reads the command line, and runs what it asks for. The tasks of a node are
+//! in `ts_daemon`, those of clients in `ts_client`.
 #![tactic(auto)]
 
 ghost use Rattle.std.specs.Prelude.{◌≡◌, ◌≤◌, OnErr, Ok, true, false};

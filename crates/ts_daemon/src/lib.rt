@@ -5,10 +5,10 @@
 //! serve_record(&rt, &words)?;                              // until it is ended, or a device fails
 //! ```
 //!
-//! - [`format_record`], [`migrate_record`], [`serve_record`]: they are safe, and each call that they
-//!   make is made where its contract allows it; what files and sockets give and take, no contract
-//!   can say. While a record is made or served it is locked, so that another process is answered
-//!   `Busy`.
+//! - [`format_record`], [`migrate_record`], [`serve_record`]: they are safe, and each call that
+//!   they make is made where its contract allows it; what files and sockets give and take, no
+//!   contract can say. While a record is made or served it is locked, so that another process is
+//!   answered `Busy`.
 //!
 //! # Not promised
 //!

@@ -23,7 +23,8 @@ pub record IsReasonLine (place count : ℕ) (c : Certificate) (reason : Reason O
     (line : List ℕ) : Type 0 where
   pub words : List ℕ
   pub why : IsWhy c reason words
-  pub line_is : line ≡ certificate_words place count c ++ (words ++ printable (section_words reason))
+  pub line_is : line
+      ≡ certificate_words place count c ++ (words ++ printable (section_words reason))
 
 -- that no trust anchor has the name of the issuer
 abbrev pub no_anchor_words : Certificate → List ℕ

@@ -6,10 +6,10 @@
 //! ```
 //!
 //! - [`section`]: the RFC and its section that a reason is of (`specs/Sections`).
-//! - [`certificate_line`]: a line that begins with a certificate of a chain: its place, of how many,
-//!   and its subject. [`reason_line`]: such a line, the words that say why the certificate is not
-//!   good (`specs/Why`), and the section of the reason. [`write_no_anchor`]: that its issuer is no
-//!   trust anchor (`specs/Lines`).
+//! - [`certificate_line`]: a line that begins with a certificate of a chain: its place, of how
+//!   many, and its subject. [`reason_line`]: such a line, the words that say why the certificate is
+//!   not good (`specs/Why`), and the section of the reason. [`write_no_anchor`]: that its issuer is
+//!   no trust anchor (`specs/Lines`).
 //!
 //! Out of memory is the only error.
 #![tactic(auto)]

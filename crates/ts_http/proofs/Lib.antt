@@ -1,6 +1,7 @@
 mod Events
 mod Responses
 mod Same
+mod Behind
 mod Streams
 mod Standing
 mod ReadSteps

@@ -3,4 +3,6 @@ pub mod Request
 pub mod Looking
 pub mod Writing
 pub mod Moves
+pub mod Reading
 pub mod Account
+pub mod inside

@@ -1,6 +1,6 @@
 -- What the calls of a connection do: each is one of these moves.
 use Rattle.std.specs.Prelude.{◌≡◌, ◌⊎◌, ◌<◌, ◌+◌, ◌++◌, ℕ, Bool, true, false, List, [], length}
-use Rattle.std.specs.Prelude.{drop}
+use Rattle.std.specs.Prelude.{drop, nat_lt, ◌||◌}
 use Rattle.std.specs.Prelude.{Option, Some, None, codes}
 use Rattle.http1.specs.declared.conn.Limits.{Limits}
 use Rattle.http1.specs.declared.server.Server.{Server}
@@ -42,6 +42,11 @@ wrong_at other = None
 -- the status of the response that waits for what is wrong
 abbrev pub wrong_in : Connection → Option ℕ
 wrong_in c = wrong_at c.stage
+
+-- more is to be read of the client while less than 65,536 octets wait to be looked at; of a
+-- connection that has ended all is, and dropped
+abbrev pub is_read : Connection → Bool
+is_read c = is_ended c || nat_lt (length c.input) 65536
 
 -- ---- moves
 

@@ -1,6 +1,6 @@
 -- How long a connection of HTTP may do what it does, in milliseconds.
 use Rattle.std.specs.Prelude.{ℕ, Bool, true, false, nat_le, nat_eq, min, max, List, [], ◌∷◌, length}
-use Rattle.std.specs.Prelude.{◌+◌, ◌*◌, ◌-◌, ◌/◌, ◌^◌, if◌then◌else◌}
+use Rattle.std.specs.Prelude.{◌+◌, ◌*◌, ◌-◌, ◌/◌, ◌^◌, Option, Some, None, if◌then◌else◌}
 use Rattle.ts_http.specs.declared.connection.Connection.{Connection}
 use Rattle.ts_http.specs.declared.connection.Stage.{Stage}
 use Rattle.ts_http.specs.declared.connection.Stage.TheVariants as stages
@@ -19,6 +19,14 @@ longest Ended idle request size = request
 
 abbrev pub is_late : Times → ℕ → ℕ → ℕ → ℕ → Bool
 is_late t idle request size now = nat_le (longest t.phase idle request size) (now - t.since)
+
+-- since when nothing is asked
+abbrev pub idle_at : Phase → ℕ → Option ℕ
+idle_at Idle since = Some since
+idle_at other since = None
+
+abbrev pub idle_since : Times → Option ℕ
+idle_since t = idle_at t.phase t.since
 
 -- ---- what a connection does
 

@@ -1,9 +1,10 @@
 //! One connection of HTTP/1.1, as a value.
 
 ghost use Rattle.std.specs.Prelude.{◌≡◌, ◌≤◌, length, option_map, take, OnOk};
-ghost use Rattle.ts_http.specs.Moves.{HasCome, HasLeft, IsNew, IsSame, is_ended, request_in};
-ghost use Rattle.ts_http.specs.Moves.{wrong_in};
-ghost use Rattle.ts_http.specs.Times.{enter_phase, is_late_in, lighten, phase_in, size_at};
+ghost use Rattle.ts_http.specs.Moves.{HasCome, HasLeft, IsNew, IsSame, is_ended, is_read};
+ghost use Rattle.ts_http.specs.Moves.{request_in, wrong_in};
+ghost use Rattle.ts_http.specs.Times.{enter_phase, idle_since, is_late_in, lighten, phase_in};
+ghost use Rattle.ts_http.specs.Times.{size_at};
 
 use crate::request::Request;
 use crate::times::{Phase, Times};
@@ -84,7 +85,9 @@ impl Connection {
 
     /// Whether more is to be read from the client: of a connection that has ended all is, and
     /// dropped.
-    pub fn reads(&self) -> bool {
+    pub fn reads(&self) -> bool
+        ensures { result ≡ is_read self.now }
+    {
         self.is_ended() || self.input.len() < MAX_HELD
     }
 
@@ -180,10 +183,9 @@ impl Connection {
     }
 
     /// Since when nothing is asked.
-    pub fn idle_since(&self) -> Option<u64> {
-        if self.times.phase == Phase::Idle {
-            return Some(self.times.since);
-        }
-        None
+    pub fn idle_since(&self) -> Option<u64>
+        ensures { result ≡ idle_since self.now.times }
+    {
+        self.times.idle_since()
     }
 }

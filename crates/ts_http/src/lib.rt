@@ -31,6 +31,8 @@
 //!   it leaves. What is refused: a head or a body of which `http1` says why (`ServerRefuses`), by
 //!   its status; a coding but `chunked` (501); a body that is announced or comes with more than
 //!   8 MiB (413).
+//! - [`Progress`]: `Waits` where less has come than is due, so that nothing can be read before more
+//!   does; `Stops` where nothing is due; else `Goes` (`specs/Reading`).
 //! - [`Connection::is_late`]: exactly by the times of `specs/Times`.
 //!
 //! # Not promised

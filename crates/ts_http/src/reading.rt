@@ -1,10 +1,13 @@
 //! Requests are read.
 
-ghost use Rattle.std.specs.Prelude.{◌≡◌, OnOk};
+ghost use Rattle.std.specs.Prelude.{◌≡◌, IfOk, OnOk};
 ghost use Rattle.ts_http.specs.Moves.{BeginsBody, FromBody, FromHead, Has, HasRead, Invites};
 ghost use Rattle.ts_http.specs.Moves.{TakesPiece};
+ghost use Rattle.ts_http.specs.Reading.{Tells};
 ghost use Rattle.ts_http.specs.Times.{enter_phase, phase_in};
-ghost use Rattle.ts_http.specs.declared.connection.Stage.TheVariants.{Wrong};
+ghost use Rattle.ts_http.specs.declared.connection.Stage.TheVariants as stages;
+ghost use Rattle.ts_http.specs.declared.reading.Progress.TheVariants.{Stops};
+ghost use Rattle.ts_http.specs.inside.Behind.{IsBehind};
 
 use crate::connection::{Connection, MAX_BODY, Stage};
 use crate::fault::HttpFault;
@@ -33,8 +36,9 @@ pub enum Progress {
 impl Connection {
     /// What came is no request that is taken.
     fn fail(&mut self, status: u16, is_head: bool) -> Progress
-        ensures wrong { Has self.new self.old.server (Wrong status is_head) self.old.input
-            self.old.out }
+        ensures wrong { Has self.new self.old.server (stages.Wrong status is_head)
+            self.old.input self.old.out }
+        ensures stops { result ≡ Stops }
         ensures times { self.new.times ≡ self.old.times }
     {
         self.stage = Stage::Wrong { status, is_head };
@@ -60,6 +64,7 @@ impl Connection {
     /// Takes the head of a request: its body comes, unless it isn't taken.
     fn take_head(&mut self, request: Request) -> Result<Progress, HttpFault>
         ensures read { OnOk result (BeginsBody self.old request self.new) }
+        ensures told { IfOk result (IsBehind self.new.stage) }
         ensures times { OnOk result (self.new.times ≡ self.old.times) }
     {
         self.announced = 0;
@@ -80,6 +85,7 @@ impl Connection {
     /// One read where a head is due.
     fn read_head(&mut self) -> Result<Progress, HttpFault>
         ensures read { OnOk result (FromHead self.old self.new) }
+        ensures told { IfOk result (Tells stages.Head self.old self.new) }
         ensures times { OnOk result (self.new.times ≡ self.old.times) }
     {
         match look_for_head(self.alloc, &mut self.server, self.input.octets())? {
@@ -99,6 +105,7 @@ impl Connection {
     /// Takes a piece of a body.
     fn take_piece(&mut self, mut request: Request, piece: &[u8]) -> Result<Progress, HttpFault>
         ensures read { OnOk result (TakesPiece self.old request piece.now self.new) }
+        ensures told { IfOk result (IsBehind self.new.stage) }
         ensures times { OnOk result (self.new.times ≡ self.old.times) }
     {
         if piece.len() > MAX_BODY - request.body.len().min(MAX_BODY) {
@@ -112,6 +119,7 @@ impl Connection {
     /// One read within the body of a request.
     fn read_body(&mut self, request: Request) -> Result<Progress, HttpFault>
         ensures read { OnOk result (FromBody request self.old self.new) }
+        ensures told { IfOk result (Tells (stages.Body request) self.old self.new) }
         ensures times { OnOk result (self.new.times ≡ self.old.times) }
     {
         match look_for_body(self.alloc, &mut self.server, self.input.octets())? {
@@ -136,6 +144,7 @@ impl Connection {
     /// Reads on: a head, or a piece of a body.
     fn read_on(&mut self) -> Result<Progress, HttpFault>
         ensures read { OnOk result (HasRead self.old self.new) }
+        ensures told { IfOk result (Tells self.old.stage self.old self.new) }
         ensures times { OnOk result (self.new.times ≡ self.old.times) }
     {
         match replace(&mut self.stage, Stage::Ended) {
@@ -155,6 +164,7 @@ impl Connection {
     /// Memory that is refused. The connection can't go on then.
     pub fn read(&mut self, now: u64) -> Result<Progress, HttpFault>
         ensures read { OnOk result (HasRead self.old self.new) }
+        ensures told { IfOk result (Tells self.old.stage self.old self.new) }
         ensures times { OnOk result (self.new.times
             ≡ enter_phase (phase_in self.new) now self.old.times) }
     {

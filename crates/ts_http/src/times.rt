@@ -1,7 +1,7 @@
 //! When a connection is late.
 
 ghost use Rattle.std.specs.Prelude.{◌≡◌};
-ghost use Rattle.ts_http.specs.Times.{enter_phase, is_late, lighten, longest};
+ghost use Rattle.ts_http.specs.Times.{enter_phase, idle_since, is_late, lighten, longest};
 ghost use Rattle.ts_http.specs.declared.times.Phase.TheVariants.{Idle};
 
 /// What a connection does.
@@ -85,6 +85,16 @@ impl Times {
         if self.left >= STRIDE {
             self.left = 0;
             self.since = now;
+        }
+    }
+
+    /// Since when nothing is asked.
+    pub fn idle_since(&self) -> Option<u64>
+        ensures { result ≡ idle_since self.now }
+    {
+        match self.phase {
+            Phase::Idle => Some(self.since),
+            Phase::Request | Phase::Asked | Phase::Answer | Phase::Ended => None,
         }
     }
 

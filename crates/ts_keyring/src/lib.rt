@@ -14,8 +14,9 @@
 //!
 //! # Not promised
 //!
-//! That nobody guesses what is drawn. What a file gives, and when it changed, no clause says. Only tested: that a changed file is read
-//! again, and that a spoiled one changes nothing (`tools/trouble`).
+//! That nobody guesses what is drawn. What a file gives, and when it changed, no clause says. Only
+//! tested: that a changed file is read again, and that a spoiled one changes nothing
+//! (`tools/trouble`).
 #![tactic(auto)]
 
 mod drawing;

@@ -4,7 +4,8 @@ use Rattle.std.specs.Prelude.{if◌then◌else◌}
 use Rattle.std.specs.List.{flat_map, join_by}
 use Rattle.ts_ext.specs.NamedBits.{bit}
 use Rattle.ts_der.specs.Element.{Fits, encode}
-use Rattle.ts_ext.specs.Points.{IsIssuingPoint, ListScope, PointName, fullName, nameRelativeToCRLIssuer}
+use Rattle.ts_ext.specs.Points.{IsIssuingPoint, ListScope, PointName, fullName}
+use Rattle.ts_ext.specs.Points.{nameRelativeToCRLIssuer}
 use Rattle.ts_line.specs.Lines.{hex}
 use Rattle.ts_line.specs.Names.{general_text}
 

@@ -11,14 +11,14 @@
 //! - [`write_name`], [`name_text`], [`write_general`], [`write_oid`]: a distinguished name, a
 //!   general name and an object identifier (`specs/Names`). A comma and a plus sign within a value
 //!   have a backslash before them, so that a value can't pass for another attribute.
-//! - [`write_point`], [`scope_line`]: what a CRL covers (`specs/Scopes`). [`write_moment`]: a
-//!   moment.
+//! - [`write_point`], [`scope_line`]: what a CRL covers (`specs/Scopes`).
+//! - [`write_moment`]: a moment of the years 0 to 9999 as a GeneralizedTime (`specs/Moments`).
 //!
 //! Out of memory is the only error.
 //!
 //! # Not promised
 //!
-//! Which words are written of a moment, except that they are printable: tests show them.
+//! Which words are written of another moment, except that they are printable: its seconds.
 #![tactic(auto)]
 
 mod line;

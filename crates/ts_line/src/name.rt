@@ -150,7 +150,8 @@ fn write_address(line: &mut Line, octets: &[u8]) -> Result<(), AllocError>
 
 /// Writes the form of a general name and a colon.
 fn write_form(line: &mut Line, general: General<'_>) -> Result<(), AllocError>
-    ensures { OnOk result (line.new ≡ line.old ++ printable (form_text (general_in general.entry))) }
+    ensures { OnOk result
+        (line.new ≡ line.old ++ printable (form_text (general_in general.entry))) }
 {
     line.text(match general {
         General::OtherName(_) => b"other:",

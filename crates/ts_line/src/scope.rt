@@ -6,9 +6,9 @@ ghost use Rattle.ts_ext.specs.NamedBits.{bit, flag_number};
 ghost use Rattle.ts_ext.specs.NameViews.{issuing_point_in, names_in, point_name_in};
 ghost use Rattle.ts_line.specs.Lines.{hex, printable};
 ghost use Rattle.ts_line.specs.Names.{general_text};
-ghost use Rattle.ts_line.specs.Scopes.{IsScopeText, behind_commas, first_reasons, last_reasons, listed};
-ghost use Rattle.ts_line.specs.Scopes.{point_items, reason_items, scope_items, scope_text};
-ghost use Rattle.ts_line.specs.Scopes.{word_if};
+ghost use Rattle.ts_line.specs.Scopes.{IsScopeText, behind_commas, first_reasons, last_reasons};
+ghost use Rattle.ts_line.specs.Scopes.{listed, point_items, reason_items, scope_items};
+ghost use Rattle.ts_line.specs.Scopes.{scope_text, word_if};
 
 use crate::line::Line;
 use crate::name::write_general;

@@ -5,7 +5,8 @@
 //! let limits = Limits::usual();
 //! let group = Group { carries: true, peers, tells: true };      // peers: node and address of each
 //! let (keyring, own, http) = (Some(keyring), Some(key), None);
-//! let mut access = Access { node: 1, keyring, own, open: false, http };
+//! let (meter, about) = (None, None);
+//! let mut access = Access { node: 1, keyring, own, open: false, http, meter, about };
 //! let at = "10.0.0.1:7001";
 //! let counts = serve_all(&rt, alloc, &mut server, at, &limits, &group, &mut access)?;
 //! ```

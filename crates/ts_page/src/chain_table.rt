@@ -1,8 +1,8 @@
 //! The certificates of a question.
 
 use crate::head::{push_cell, push_count, push_moment};
+use crate::html::Html;
 use std::alloc::{AllocError, Global};
-use ts_html::Html;
 use ts_json::AnswerFields;
 use ts_render::CertificateFields;
 

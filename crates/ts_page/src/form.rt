@@ -1,8 +1,8 @@
 //! The form.
 
+use crate::html::Html;
 use std::alloc::AllocError;
 use ts_form::{Field, Pair};
-use ts_html::Html;
 
 /// The last value that pairs give a field.
 fn value_of<'a>(pairs: &'a [Pair], field: Field) -> &'a str {

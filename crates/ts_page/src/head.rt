@@ -1,7 +1,7 @@
 //! What all pages have: their beginning and end, and rows of tables.
 
+use crate::html::Html;
 use std::alloc::{AllocError, Global};
-use ts_html::Html;
 
 /// What stands above all.
 const HEAD: &str = "\

@@ -6,9 +6,17 @@
 //! let html = verdict_page(alloc, &fields, &chain, note, &pairs)?;
 //! ```
 //!
-//! A page is written by `ts_html`: of words of the program, and of texts that are escaped. So no
-//! text of a certificate, a CRL or a request is markup (`Html::text`); no other way is there to put
-//! one on a page.
+//! A page is `Html`, which words of the program and texts from elsewhere are added to:
+//!
+//! - `Html::raw`: words of the program stand behind what was there, as they are. They are
+//!   `'static`, so that no text from elsewhere can be written so.
+//! - `Html::text`: `added`: the text stands behind what was there, each octet as its table says;
+//!   `escaped`: what is added is of octets that are none of `& < > " '` and of the five entities
+//!   for these alone (`specs/Escaped`), so that it ends neither a text nor the value of an
+//!   attribute in quotation marks, and begins no tag. So no text of a certificate, a CRL or a
+//!   request is markup.
+//!
+//! The pages:
 //!
 //! - [`store_page`]: the nodes and what they know; what the store holds after k commands, each list
 //!   with its dates, of which nextUpdate is marked where it is past, or less than a day away; and
@@ -23,12 +31,13 @@
 //!
 //! # Not promised
 //!
-//! What pages say: `tools/browser` looks at them in a browser.
+//! What pages say, but for that: `tools/browser` looks at them in a browser.
 #![tactic(auto)]
 
 mod chain_table;
 mod form;
 mod head;
+mod html;
 mod loaded;
 mod store;
 mod verdict;

@@ -2,8 +2,8 @@
 
 use crate::form::push_form;
 use crate::head::{begin, end, push_cell, push_count, push_moment, push_number};
+use crate::html::Html;
 use std::alloc::{AllocError, Global};
-use ts_html::Html;
 use ts_render::{AnchorFields, CrlFields, PurposeFields, RowFields};
 
 /// How near a nextUpdate is marked, in seconds.

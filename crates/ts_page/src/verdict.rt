@@ -3,9 +3,9 @@
 use crate::chain_table::push_chain;
 use crate::form::push_form;
 use crate::head::{begin, end, push_number};
+use crate::html::Html;
 use std::alloc::{AllocError, Global};
 use ts_form::Pair;
-use ts_html::Html;
 use ts_json::AnswerFields;
 use ts_render::CertificateFields;
 

@@ -19,8 +19,8 @@
 //! - [`chain_fields`]: the certificates of a question, their subjects and validities, of which the
 //!   one is marked that a reply names (`specs/Chain`).
 //! - [`explanation`]: `IsEnded` (`specs/Explanations`): what a reply means in plain words, word for
-//!   word, as one line of printable characters of ASCII that is ended by a line feed. Of a chain that
-//!   is not valid it is the line of `ts_explain` on the certificate that the reply names.
+//!   word, as one line of printable characters of ASCII that is ended by a line feed. Of a chain
+//!   that is not valid it is the line of `ts_explain` on the certificate that the reply names.
 //! - [`moment_text`]: a moment.
 //!
 //! Out of memory is the only error.

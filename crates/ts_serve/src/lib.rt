@@ -55,8 +55,9 @@
 //! # Not promised
 //!
 //! Only tested: what `carry` and `TcpPeer` carry and count, and that calls with ample memory
-//! succeed (`tests/served`). Neither proved nor tested: what `listen` serves, and that a connection
-//! of its that is waited for longer than a minute ends; what a socket gives or takes.
+//! succeed (`tests/served`); what `listen` serves, on one connection (`test_serve`). Neither proved
+//! nor tested: that a connection of `listen` ends that is waited for longer than a minute, and what
+//! a socket gives or takes.
 #![tactic(auto)]
 
 mod answering;

@@ -1,8 +1,10 @@
 -- What the calls of a connection of HTTP before a node do.
-use Rattle.std.specs.Prelude.{◌≡◌, ◌==◌, ◌⊎◌, ℕ, List, [], ◌∷◌, Option, Some, None, codes}
-use Rattle.std.specs.Prelude.{if◌then◌else◌}
-use Rattle.ts_http.specs.Moves.{HasAnswered, HasRead, request_in, wrong_in}
+use Rattle.std.specs.Prelude.{◌≡◌, ◌==◌, ◌⊎◌, ◌≤◌, ℕ, Bool, true, List, [], ◌∷◌}
+use Rattle.std.specs.Prelude.{Option, Some, None, codes, if◌then◌else◌, length, nat_lt}
+use Rattle.ts_http.specs.Moves.{HasAnswered, HasRead, is_ended, request_in, wrong_in}
+use Rattle.ts_http.specs.Reading.{Tells}
 use Rattle.ts_http.specs.declared.connection.Connection.{Connection}
+use Rattle.ts_http.specs.declared.reading.Progress.TheVariants.{Waits}
 use Rattle.ts_http.specs.declared.request.Request.{Request}
 use Rattle.ts_wire.specs.declared.frame.Frame.{Frame}
 use Rattle.ts_api.specs.Heading.{headers_of, phrase_of}
@@ -14,6 +16,10 @@ use Rattle.ts_site.specs.declared.face.Asking.{Asking}
 use Rattle.ts_site.specs.declared.face.Face.{Face}
 use Rattle.ts_site.specs.declared.next.Next.{Next}
 use Rattle.ts_site.specs.declared.next.Next.TheVariants.{Tell, Ask}
+
+-- what waits to leave is less than 65,536 octets
+abbrev pub has_room : Connection → Bool
+has_room c = nat_lt (length c.out) 65536
 
 -- a connection, and what the node is asked for the request that waits on it
 abbrev pub State : Type 0
@@ -68,3 +74,20 @@ TakesOne scene s t = (s.1 ≡ None)
 abbrev pub Takes : Scene → State → List State → State → Type 0
 Takes scene s [] t = s ≡ t
 Takes scene s (mid ∷ mids) t = Takes scene s mids mid × TakesOne scene mid t
+
+-- the last step read, and less had come than was due
+abbrev pub IsStarved : List State → State → Type 0
+IsStarved [] t = ⊥
+IsStarved (mid ∷ mids) t = Tells mid.0.stage mid.0 t.0 Waits
+
+-- nothing can be done before more comes, or nothing more is answered
+abbrev pub IsIdle : List State → State → Type 0
+IsIdle mids t = IsStarved mids t ⊎ (is_ended t.0 ≡ true)
+
+-- why no more is taken now: the node is to be asked; or 65,536 octets wait to leave, and this is
+-- known; or nothing can be done; or there were 2^32 - 1 steps
+abbrev pub IsDone : List State → State → Bool → Type 0
+IsDone mids t paused = ((asking : Asking) × (t.1 ≡ Some asking))
+    ⊎ ((paused ≡ true) × (65536 ≤ length t.0.out))
+    ⊎ IsIdle mids t
+    ⊎ (4294967295 ≤ length mids)

@@ -7,3 +7,4 @@ pub mod Statuses
 pub mod Requests
 pub mod Faces
 pub mod Account
+pub mod inside

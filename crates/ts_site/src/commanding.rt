@@ -40,7 +40,7 @@ const SUBMIT: [u8; 6] = [0, 0, 0, 2, 2, 0x10];
 /// 403 where the key may not.
 fn refusal_of(scene: &Scene<'_>, bearer: Bearer) -> Option<(u16, &'static str)>
     ensures { IsRefusal scene.entry.now.commands scene.entry.now.node
-        scene.entry.now.keys.now bearer (option_map (λ said. said.0) result) }
+        scene.entry.now.keys.now bearer (option_map (λ why. (why.0, why.1.now)) result) }
 {
     if !scene.commands {
         return Some((

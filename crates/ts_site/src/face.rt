@@ -1,14 +1,15 @@
 //! One connection of HTTP before a node, as a value.
 
-ghost use Rattle.std.specs.Prelude.{◌≡◌, ◌≤◌, ◌⊎◌, List, None, IfOk, OnOk, length, option_map};
-ghost use Rattle.std.specs.Prelude.{take, true, false};
-ghost use Rattle.ts_http.specs.Moves.{HasCome, HasLeft, is_ended};
-ghost use Rattle.ts_http.specs.Times.{is_late_in};
+ghost use Rattle.std.specs.Prelude.{◌≡◌, ◌≤◌, ◌⊎◌, ◌&&◌, List, None, IfOk, OnOk, length};
+ghost use Rattle.std.specs.Prelude.{option_map, take, true, false};
+ghost use Rattle.ts_http.specs.Moves.{HasCome, HasLeft, is_ended, is_read, request_in};
+ghost use Rattle.ts_http.specs.Times.{idle_since, is_late_in};
 ghost use Rattle.ts_site.specs.Account.{IsBegun};
 ghost use Rattle.ts_api.specs.Response.{IsLine};
 ghost use Rattle.ts_api.specs.declared.response.Response.{Response};
-ghost use Rattle.ts_site.specs.Faces.{Follows, HasBegun, IsGiven, Responds, State};
-ghost use Rattle.ts_site.specs.Faces.{Takes, state_of, wrong_words};
+ghost use Rattle.ts_site.specs.Faces.{Follows, HasBegun, IsDone, IsGiven, Responds, State};
+ghost use Rattle.ts_site.specs.Faces.{Takes, has_room, state_of, wrong_words};
+ghost use Rattle.ts_site.specs.inside.Stepping.{IsStep};
 ghost use Rattle.ts_site.specs.declared.next.Next.TheVariants.{Tell};
 
 use crate::board::Board;
@@ -78,12 +79,16 @@ impl Face {
     }
 
     /// Whether more is to be read from the client.
-    pub fn reads(&self) -> bool {
+    pub fn reads(&self) -> bool
+        ensures { result ≡ is_read self.now.connection && has_room self.now.connection }
+    {
         self.connection.reads() && self.connection.octets().len() < MAX_HELD
     }
 
     /// Whether requests that have come can be taken now, which had to wait.
-    pub fn goes_on(&self) -> bool {
+    pub fn goes_on(&self) -> bool
+        ensures { result ≡ self.now.paused && has_room self.now.connection }
+    {
         self.paused && self.connection.octets().len() < MAX_HELD
     }
 
@@ -130,7 +135,9 @@ impl Face {
     }
 
     /// Since when nothing is asked.
-    pub fn idle_since(&self) -> Option<u64> {
+    pub fn idle_since(&self) -> Option<u64>
+        ensures { result ≡ idle_since self.now.connection.times }
+    {
         self.connection.idle_since()
     }
 
@@ -197,7 +204,8 @@ impl Face {
     ) -> Result<bool, HttpFault>
         ensures { IfOk result (λ there. ((there ≡ true)
             × HasBegun scene.entry.now (state_of self.old) (state_of self.new))
-            ⊎ ((there ≡ false) × (state_of self.new ≡ state_of self.old))) }
+            ⊎ ((there ≡ false) × (state_of self.new ≡ state_of self.old)
+            × (request_in self.old.connection ≡ None))) }
     {
         let Some(request) = self.connection.request() else {
             return Ok(false);
@@ -210,8 +218,7 @@ impl Face {
     /// The next step, while the node is not asked. Whether there may be another.
     fn step(&mut self, scene: &Scene<'_>, board: &mut Board, now: u64) -> Result<bool, HttpFault>
         requires { self.old.asking ≡ None }
-        ensures { OnOk result ((mids : List State)
-            × Takes scene.entry.now (state_of self.old) mids (state_of self.new)) }
+        ensures { IfOk result (IsStep scene.entry.now (state_of self.old) (state_of self.new)) }
     {
         match self.connection.read(now)? {
             Progress::Goes => Ok(true),
@@ -226,15 +233,16 @@ impl Face {
         }
     }
 
-    /// Goes on until the node has to be asked, or nothing can be done before something comes, or
-    /// leaves.
+    /// Goes on until the node has to be asked, or nothing can be done before more comes, or enough
+    /// waits to leave that requests have to wait (`goes_on` says when they can be taken again).
     ///
     /// # Errors
     ///
     /// Memory that is refused. The connection can't go on then.
     pub fn take(&mut self, scene: &Scene<'_>, board: &mut Board, now: u64) -> Result<(), HttpFault>
         ensures { OnOk result ((mids : List State)
-            × Takes scene.entry.now (state_of self.old) mids (state_of self.new)) }
+            × Takes scene.entry.now (state_of self.old) mids (state_of self.new)
+            × IsDone mids (state_of self.new) self.new.paused) }
     {
         self.paused = false;
         for _step in 0..u32::MAX {

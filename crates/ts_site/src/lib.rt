@@ -12,15 +12,18 @@
 //!
 //! - [`Face`]: a connection. What it reads and writes, and that each request is answered once and
 //!   in order, `ts_http` says.
-//! - [`Face::take`], [`Face::give`]: `Takes`, `IsGiven` (`specs/Faces`): a request comes to what
-//!   `Begins` says, by its path, its method and what it says, and an answer of the node to what
-//!   `GoesOn` says (`specs/Requests`): of which question the frame is, and which status a response
-//!   has, which body, which header fields, and for how long it may be kept (`specs/Verdicts`,
-//!   `Listings`, `Statuses`). A command is handed on only from whoever shows the secret of a key
-//!   that may submit it, and is refused with 401 or 403 else (`specs/Commanding`).
+//! - [`Face::take`]: `Takes`, `IsDone` (`specs/Faces`): step by step what has come is read and
+//!   begun, until the node is to be asked, less than a request is left, too much waits to leave
+//!   (then [`Face::goes_on`] says when to go on), or nothing more is answered.
+//! - [`Face::take`], [`Face::give`]: `Takes`, `IsGiven`: a request comes to what `Begins` says, by
+//!   its path, its method and what it says, and an answer of the node to what `GoesOn` says
+//!   (`specs/Requests`): of which question the frame is, and which status a response has, which
+//!   body, which header fields, and for how long it may be kept (`specs/Verdicts`, `Listings`,
+//!   `Statuses`). A command is handed on only from whoever shows the secret of a key that may
+//!   submit it, and is refused with 401 or 403 and these words else (`specs/Commanding`).
 //! - [`asks_for_requests`], [`asks_their_questions`]: over every list of calls of a connection, the
-//!   node is asked for the request that waits, and, where a verdict is asked, the question that this
-//!   request says.
+//!   node is asked for the request that waits, and, where a verdict is asked, the question that
+//!   this request says.
 //! - [`Scene`]: what a request finds: the time, the node's number and keys. [`Board`]: what a node
 //!   shows: its peers, and counts.
 //!

@@ -1,6 +1,8 @@
 //! Connections are accepted.
 
+ghost use Rattle.std.specs.Prelude.{◌≡◌};
 ghost use Rattle.ts_links.specs.Calls.{IsQuiet};
+ghost use Rattle.ts_sockets.specs.Doors.{is_due};
 
 use crate::access::Access;
 use crate::counts::{Counts, Why};
@@ -36,7 +38,9 @@ pub enum Accepts {
 
 impl Accepts {
     /// Whether it is time, where the listener has an event or not.
-    pub fn is_due(self, event: bool, now: u64) -> bool {
+    pub fn is_due(self, event: bool, now: u64) -> bool
+        ensures { result ≡ is_due self event now }
+    {
         match self {
             Accepts::AtEvent => event,
             Accepts::Now => true,

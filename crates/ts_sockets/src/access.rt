@@ -1,5 +1,7 @@
 //! Who may ask a node, and what it shows its peers.
 
+ghost use Rattle.std.specs.Prelude.{◌≡◌, is_some};
+
 use std::alloc::Global;
 use std::rt::Files;
 use ts_access::Key;
@@ -48,7 +50,9 @@ impl<'m> Access<'m> {
     }
 
     /// Whether keys are wanted.
-    pub fn is_locked(&self) -> bool {
+    pub fn is_locked(&self) -> bool
+        ensures { result ≡ is_some self.now.keyring }
+    {
         self.keyring.is_some()
     }
 

@@ -1,5 +1,8 @@
 //! What a loop has done.
 
+ghost use Rattle.std.specs.Prelude.{◌≡◌};
+ghost use Rattle.ts_sockets.specs.Counts.{closed, nothing, opened, over, refused};
+
 /// What a loop has done, and how often.
 #[derive(Clone, Copy, Debug, PartialEq, Eq)]
 pub struct Counts {
@@ -27,7 +30,9 @@ pub struct Counts {
 
 impl Counts {
     /// Nothing was done.
-    pub fn new() -> Counts {
+    pub fn new() -> Counts
+        ensures { result ≡ nothing }
+    {
         Counts {
             accepted: 0,
             refused: 0,
@@ -43,19 +48,25 @@ impl Counts {
     }
 
     /// A connection was opened.
-    pub fn opened(&mut self) {
+    pub fn opened(&mut self)
+        ensures { self.new ≡ opened self.old }
+    {
         self.accepted = self.accepted.saturating_add(1);
         self.open = self.open.saturating_add(1);
         self.most = self.most.max(self.open);
     }
 
     /// A connection was closed at once, since no slot was free.
-    pub fn refuse(&mut self) {
+    pub fn refuse(&mut self)
+        ensures { self.new ≡ refused self.old }
+    {
         self.refused = self.refused.saturating_add(1);
     }
 
     /// A connection was closed.
-    pub fn closed(&mut self, why: Why) {
+    pub fn closed(&mut self, why: Why)
+        ensures { self.new ≡ closed why self.old }
+    {
         self.open = self.open.saturating_sub(1);
         match why {
             Why::Ended => self.ended = self.ended.saturating_add(1),
@@ -66,7 +77,9 @@ impl Counts {
     }
 
     /// How many connections are over.
-    pub fn over(&self) -> u64 {
+    pub fn over(&self) -> u64
+        ensures { result ≡ over self.now }
+    {
         let closed = self.ended.saturating_add(self.late);
         let others = self.failed.saturating_add(self.made_room);
         closed.saturating_add(others).saturating_add(self.refused)

@@ -1,6 +1,8 @@
 //! The socket of a slot, and what is known of it.
 
+ghost use Rattle.std.specs.Prelude.{◌≡◌};
 ghost use Rattle.ts_links.specs.Calls.{IsQuiet};
+ghost use Rattle.ts_sockets.specs.Doors.{is_over_at};
 
 use crate::lock::{HandOver, Lock};
 use crate::socket::{PIECE, Socket};
@@ -42,7 +44,9 @@ impl Door {
     }
 
     /// Whether its client has shown no key for so many milliseconds, or lives too long on one.
-    pub fn is_over(&self, millis: u64, now: u64) -> bool {
+    pub fn is_over(&self, millis: u64, now: u64) -> bool
+        ensures { result ≡ is_over_at self.now.lock millis now }
+    {
         match &self.lock {
             Some(lock) => lock.is_over(millis, now),
             None => false,

@@ -18,13 +18,16 @@
 //! - [`Socket::write`]: all that is written on a socket passes it, also to peers (`ts_peers`) and
 //!   over HTTP (`ts_loop`). Its condition is that what was answered is kept, and so it is one of
 //!   each call that writes.
-//! - [`Counts`]: what was done, for whoever watches.
+//! - [`Counts`]: what was done, for whoever watches: each call counts by `specs/Counts`.
+//! - [`Accepts::is_due`], [`Door::is_over`]: when connections are accepted again, and when one is
+//!   over where keys are wanted (`specs/Doors`).
 //!
 //! # Not promised
 //!
 //! Nothing says what a socket gives or takes: that the octets of a move are those that came, or
 //! that the lock let through, or that anything is accepted, read or written. `bench/hostile` and
-//! `tools/forge` try these over the loopback. What is counted.
+//! `tools/forge` try these over the loopback. That what happens is counted, and what a [`Socket`]
+//! says may be done on it.
 #![tactic(auto)]
 
 mod accepting;

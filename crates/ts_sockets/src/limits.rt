@@ -1,5 +1,7 @@
 //! What a loop allows.
 
+ghost use Rattle.std.specs.Prelude.{◌≡◌, ◌-◌, ◌^◌};
+
 use ts_links::Deadlines;
 
 /// What a loop allows.
@@ -18,7 +20,14 @@ pub struct Limits {
 
 impl Limits {
     /// 30 seconds without a request, 5 for a request, 512 connections at once, and no end.
-    pub fn usual() -> Limits {
+    pub fn usual() -> Limits
+        ensures { result ≡ record {
+          idle_ms = 30000;
+          request_ms = 5000;
+          connections_at_once = 512;
+          connections = 2 ^ 64 - 1;
+        } }
+    {
         Limits {
             idle_ms: 30_000,
             request_ms: 5_000,
@@ -28,7 +37,9 @@ impl Limits {
     }
 
     /// The times that a connection has.
-    pub fn deadlines(&self) -> Deadlines {
+    pub fn deadlines(&self) -> Deadlines
+        ensures { result ≡ record { idle_ms = self.now.idle_ms; request_ms = self.now.request_ms } }
+    {
         Deadlines {
             idle_ms: self.idle_ms,
             request_ms: self.request_ms,

@@ -1,7 +1,8 @@
 //! The lock of a slot: what comes on its socket is opened, and what leaves is sealed.
 
-ghost use Rattle.std.specs.Prelude.{◌≡◌, ◌≤◌, length};
+ghost use Rattle.std.specs.Prelude.{◌≡◌, ◌≤◌, drop, length, nat_lt};
 ghost use Rattle.ts_links.specs.Calls.{IsQuiet};
+ghost use Rattle.ts_sockets.specs.Doors.{is_over, unknown_since};
 
 use std::alloc::Global;
 use std::random::RandomSource;
@@ -61,7 +62,9 @@ impl Lock {
 
     /// Whether the connection's time is over: no key was shown for so many milliseconds, or it
     /// lives for an hour on a key that may have been withdrawn since.
-    pub fn is_over(&self, millis: u64, now: u64) -> bool {
+    pub fn is_over(&self, millis: u64, now: u64) -> bool
+        ensures { result ≡ is_over self.now millis now }
+    {
         let longest = if self.entrance.has_begun() {
             LONGEST_LIFE
         } else {
@@ -71,7 +74,9 @@ impl Lock {
     }
 
     /// When the connection was accepted, if no key was shown since.
-    pub fn unknown_since(&self) -> Option<u64> {
+    pub fn unknown_since(&self) -> Option<u64>
+        ensures { result ≡ unknown_since self.now }
+    {
         if self.entrance.has_begun() {
             return None;
         }
@@ -86,13 +91,16 @@ impl Lock {
     }
 
     /// Whether something is ready to be written.
-    pub fn waits(&self) -> bool {
+    pub fn waits(&self) -> bool
+        ensures { result ≡ nat_lt 0 (length self.now.out) }
+    {
         self.out.len() > 0
     }
 
     /// So many of the octets that were ready are written.
     pub fn written(&mut self, count: usize)
         requires { count ≤ length self.old.out }
+        ensures { self.new ≡ record self.old { out = drop count self.old.out } }
     {
         self.out.skip(count);
     }

@@ -1,5 +1,6 @@
 -- Places in lists.
-use Rattle.std.proofs.Common.{◌≡◌, ℕ, zero, suc, ◌+◌, ◌-◌, ◌<◌, ◌≤◌, List, [], ◌∷◌, ◌++◌, map, length, get_or, take, drop, Option, Some, None, slice_get, refl, sym, ap, ◌∙◌, arith, add-one}
+use Rattle.std.proofs.Common.{◌≡◌, ◌==◌, ◌||◌, Bool, not, subst, ℕ, zero, suc, ◌+◌, ◌-◌, ◌<◌, ◌≤◌, List, [], ◌∷◌, ◌++◌, map, length, get_or, take}
+use Rattle.std.proofs.Common.{drop, Option, Some, None, slice_get, refl, sym, ap, ◌∙◌, arith, add-one}
 use Rattle.std.proofs.lemmas.List.{take_all}
 use Rattle.std.specs.Prelude.{IfSome, unwrap_or}
 
@@ -45,3 +46,19 @@ front_is (y ∷ ys) x some is =
     let n : length (y ∷ ys) - 1 ≡ length ys = omega arith in
     let e = ap (λ k. take k ys) n ∙ take_all (length ys) ys (omega arith) in
     λ i. is i ∷ e i
+
+abbrev IsSomething : {X : Type 0} → Option X → Type 0
+IsSomething None = ⊥
+IsSomething (Some x) = Unit {0}
+
+-- where something is, the place is one of the list
+pub within : {X : Type 0} (xs : List X) (i : ℕ) (x : X) → slice_get xs i ≡ Some x → i < length xs
+within {X} [] i x is = absurd (subst (λ (o : Option X). IsSomething o) (sym is) tt)
+within (y ∷ xs) zero x is = omega arith
+within (y ∷ xs) (suc i) x is = omega (arith, within xs i x is)
+
+-- whether there is any, in one list or in another
+pub any : {X Y : Type 0} (f : X → Y) (xs ys : List X) (r : Bool)
+    → r ≡ (not (length xs == 0) || not (length ys == 0))
+    → r ≡ (not (length (map f xs) == 0) || not (length (map f ys) == 0))
+any f xs ys r is = is ∙ sym (λ i. not (length_map f xs i == 0) || not (length_map f ys i == 0))

@@ -1,5 +1,6 @@
 -- What is reported: the verdict on a chain, and whether its leaf is for the host that is asked.
-use Rattle.std.specs.Prelude.{◌≡◌, ℕ, List, [], ◌∷◌, map, Option, Some, None}
+use Rattle.std.specs.Prelude.{◌≡◌, ◌||◌, ◌==◌, ℕ, Bool, not, List, [], ◌∷◌, map, length}
+use Rattle.std.specs.Prelude.{Option, Some, None, slice_get}
 use Rattle.ts_ext.specs.GeneralNames.{general_names_of}
 use Rattle.ts_ext.specs.declared.known.Known.TheVariants.{SubjectAltName}
 use Rattle.ts_cert.specs.Certificate.{Certificate}
@@ -8,6 +9,7 @@ use Rattle.ts_cert.specs.Stated.{stated_value}
 use Rattle.ts_verify.specs.Hosts.{IsFor}
 use Rattle.ts_verify.specs.declared.host.Host.{Host}
 use Rattle.ts_path.specs.Asked.{TrustAnchor, ValidationInputs}
+use Rattle.ts_path.specs.View.{anchor_in}
 use Rattle.ts_path.specs.declared.verdict.Verdict.{Verdict}
 use Rattle.ts_path.specs.declared.verdict.Verdict.TheVariants as verdict
 use Rattle.ts_search.specs.Search.{Search}
@@ -43,11 +45,18 @@ abbrev pub search_with : List TrustAnchor → (TrustAnchor → ValidationInputs)
 search_with anchors asked certificates =
     record { certificates = certificates; anchors = anchors; asked = asked }
 
--- the report on certificates of which the leaf is the first, by the search among them
+-- a CRL is at hand
+abbrev pub has_any : ValidationInputs → Bool
+has_any asked = not (length asked.lists == 0) || not (length asked.deltas == 0)
+
+-- the report on certificates of which the leaf is the first, by the search among them: the verdict,
+-- the anchor at this place, and whether a CRL is at hand
 pub record IsReportOn (search : Search) (host : Option Host) (report : Report) : Type 0 where
   pub verdict : Verdict
   pub judged : IsJudged search report.anchor_place (map cert_in report.chain.items) verdict
   pub says : Says host search.certificates verdict report.finding
+  pub anchor_is : slice_get search.anchors report.anchor_place ≡ Some (anchor_in report.anchor)
+  pub lists_are : (anchor : TrustAnchor) → report.has_lists ≡ has_any (search.asked anchor)
 
 -- the report on certificates in any order
 pub record IsReport (search : List Certificate → Search) (certificates : List Certificate)

@@ -41,8 +41,7 @@
 //!
 //! # Not promised
 //!
-//! Neither proved nor tested: that `anchor` is the anchor at `anchor_place`, `has_lists`; which
-//! anchor and which issuers are taken for a chain by names; time.
+//! Neither proved nor tested: which anchor and which issuers are taken for a chain by names; time.
 //!
 //! Only tested: the examples of RFC 9525 and a certificate of OpenSSL (`tests/words/verify.rows`).
 //! SRV-IDs and URI-IDs (RFC 9525 6.5) are not looked at.

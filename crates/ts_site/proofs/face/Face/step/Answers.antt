@@ -1,16 +1,20 @@
 -- Something was read, and what came of it was answered or asked.
-use Rattle.std.proofs.Common.{inl, inr, refl, sym, [], ◌∷◌}
+use Rattle.std.proofs.Common.{arith, inl, inr, refl, subst, sym, [], ◌∷◌}
+use Rattle.ts_http.specs.Reading.{Tells}
+use Rattle.ts_http.specs.declared.reading.Progress.{Progress}
 use Rattle.ts_site.specs.Faces.{State, TakesOne, state_of}
-use Rattle.ts_site.proofs.Steps.{after_read}
+use Rattle.ts_site.proofs.Steps.{after_read, refused}
 use Rattle.ts_site.proofs.face.Face.step.Goals as goal
 
 pub returns-in-Goes : goal.returns-in-Goes
 returns-in-Goes c =
-    (state_of c.args.self.now ∷ [], (refl, (c.requires, inl (c.in_ok-read.ensures.read, c.requires))))
+    (state_of c.args.self.now ∷ [], (refl, (c.requires, inl (c.in_ok-read.ensures.read, c.requires))), omega arith, inl refl)
 
 pub returns-in-Waits : goal.returns-in-Waits
 returns-in-Waits c =
-    (state_of c.args.self.now ∷ [], (refl, (c.requires, inl (c.in_ok-read.ensures.read, c.requires))))
+    let a = c.args.self.now.connection in
+    let waits = subst (λ (p : Progress). Tells a.stage a c.read.new.self p) c.in-Waits.is c.in_ok-read.ensures.told in
+    (state_of c.args.self.now ∷ [], (refl, (c.requires, inl (c.in_ok-read.ensures.read, c.requires))), omega arith, inr (inl waits))
 
 pub returns-in_ok-refuse-in-Some : goal.returns-in_ok-refuse-in-Some
 returns-in_ok-refuse-in-Some c =
@@ -20,11 +24,15 @@ returns-in_ok-refuse-in-Some c =
     let one : TakesOne c.args.scene.now s mid = (c.requires, inl (c.in_ok-read.ensures.read, c.requires)) in (
       mid ∷ s ∷ [],
       ((refl, one), (c.requires, inr (inl (c.in-Some.status, sym c.in-Some.ensures, told.0, told.1, told.2)))),
+      omega arith,
+      inr (inr (refused mid.0 _ c.in-Some.status told.0 (sym c.in-Some.ensures) told.2.0)),
     )
 
 pub returns-in-None : goal.returns-in-None
 returns-in-None c =
     let s = state_of c.args.self.now in
+    let a = c.args.self.now.connection in
     let mid : State = (c.read.new.self, c.args.self.now.asking) in
     let one : TakesOne c.args.scene.now s mid = (c.requires, inl (c.in_ok-read.ensures.read, c.requires)) in
-    after_read c.take_request.result c.args.scene.now s mid (state_of c.take_request.new.self) one c.requires c.take_request.ensures
+    let due = subst (λ (p : Progress). Tells a.stage a c.read.new.self p) c.in-Stops.is c.in_ok-read.ensures.told in
+    after_read c.take_request.result c.args.scene.now s mid (state_of c.take_request.new.self) one c.requires due (sym c.in-None.ensures) c.take_request.ensures

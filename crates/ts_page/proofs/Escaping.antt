@@ -1,7 +1,7 @@
 -- What stands for a text has no markup.
 use Rattle.std.proofs.Common.{◌≡◌, ◌∙◌, refl, ap, sym, ℕ, Bool, true, false, List, [], ◌∷◌, ◌++◌, inl, inr, ◌==◌, ◌||◌, codes}
 use Rattle.std.specs.List.{flat_map, AllByRecursion}
-use Rattle.ts_html.specs.Escaped.{escape, escaped_octet, is_special, IsEscaped, IsPiece}
+use Rattle.ts_page.specs.Escaped.{escape, escaped_octet, is_special, IsEscaped, IsPiece}
 
 pieces_of : List ℕ → List (List ℕ)
 pieces_of [] = []

@@ -2,14 +2,14 @@
 
 ghost use Rattle.std.specs.Prelude.{◌≡◌, ◌++◌, ◌∷◌, [], ℕ, List, OnOk, string_bytes};
 ghost use Rattle.std.specs.List.{flat_map};
-ghost use Rattle.ts_html.specs.Escaped.{IsEscaped, escape, escaped_octet};
+ghost use Rattle.ts_page.specs.Escaped.{IsEscaped, escape, escaped_octet};
 
 use std::alloc::{AllocError, Global};
 use std::marker::Model;
 
 /// A text of HTML. Contracts see its octets.
 #[derive(Debug, Drop)]
-pub struct Html {
+pub(crate) struct Html {
     octets: Vec<u8>,
 }
 

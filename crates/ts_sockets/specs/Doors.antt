@@ -1,0 +1,28 @@
+-- When connections are accepted, and how long one may last where keys are wanted. Moments are
+-- milliseconds on one clock.
+use Rattle.std.specs.Prelude.{◌-◌, ℕ, Bool, true, false, Option, Some, None, nat_le}
+use Rattle.std.specs.Prelude.{if◌then◌else◌}
+use Rattle.ts_access.specs.Entering.{has_begun}
+use Rattle.ts_sockets.specs.declared.accepting.Accepts.{Accepts}
+use Rattle.ts_sockets.specs.declared.accepting.Accepts.TheVariants.{AtEvent, Now, At}
+use Rattle.ts_sockets.specs.declared.lock.Lock.{Lock}
+
+-- it is time to accept, where the listener has an event or not
+abbrev pub is_due : Accepts → Bool → ℕ → Bool
+is_due AtEvent event now = event
+is_due Now event now = true
+is_due (At moment) event now = nat_le moment now
+
+-- one that has shown no key is over after so many milliseconds, and each after an hour
+abbrev pub is_over : Lock → ℕ → ℕ → Bool
+is_over lock millis now =
+    nat_le (if has_begun lock.entrance.stage then 3600000 else millis) (now - lock.since)
+
+-- where no keys are wanted none is
+abbrev pub is_over_at : Option Lock → ℕ → ℕ → Bool
+is_over_at (Some lock) millis now = is_over lock millis now
+is_over_at None millis now = false
+
+-- when it was accepted, if it has shown no key since
+abbrev pub unknown_since : Lock → Option ℕ
+unknown_since lock = if has_begun lock.entrance.stage then None else Some lock.since
