@@ -9,8 +9,8 @@
 //! let octets = question_octets(alloc, &words, &certificates)?;
 //! ```
 //!
-//! The second word says whose words these are: the program's own, those of `trustd command` or those
-//! of `trustd question`. No file is read here, no id is drawn, and no connection is made.
+//! The second word says whose words these are: the program's own, those of `trustd command` or
+//! those of `trustd question`. No file is read here, no id is drawn, and no connection is made.
 //!
 //! - [`task_of`]: `lab`: only out of memory keeps `trustd lab` from the lab; `taken`: a task comes
 //!   only from words in which the parser has no fault to find; `asked`: it is what the subcommand

@@ -1,7 +1,7 @@
 //! A disk in memory, which keeps a record of its calls, and fails when a test wants it to.
 
-ghost use Rattle.std.specs.Prelude.{◌≡◌, IfOk, ◌⊎◌, ◌<◌, ◌≤◌, ◌^◌, ◌+◌, ◌-◌, List, ℕ, [], ◌∷◌, ◌++◌};
-ghost use Rattle.std.specs.Prelude.{length, true, Some, None, Err, OnOk, OnErr, IfErr, IsErr};
+ghost use Rattle.std.specs.Prelude.{◌≡◌, IfOk, ◌⊎◌, ◌<◌, ◌≤◌, ◌^◌, ◌+◌, ◌-◌, List, ℕ, [], ◌∷◌};
+ghost use Rattle.std.specs.Prelude.{◌++◌, length, true, Some, None, Err, OnOk, OnErr, IfErr, IsErr};
 ghost use Rattle.ts_disk.specs.declared.call.DiskCall.TheVariants.{Read, Write, Sync};
 ghost use Rattle.ts_disk.specs.declared.fault.DiskFault.TheVariants.{Failed};
 ghost use Rattle.ts_disk.specs.declared.crash.Torn.TheVariants.{New};

@@ -31,7 +31,8 @@ pub struct FileDisk<F> {
     failures: u64,
     ghost bounded: { size < 2 ^ 63 },
     ghost sized: { size ≡ length (disk_after file.history.events).read },
-    ghost whole: { ForSome unread (λ octets. octets.items ≡ (disk_after file.history.events).read) },
+    ghost whole: { ForSome unread
+        (λ octets. octets.items ≡ (disk_after file.history.events).read) },
 }
 
 /// A failure of the device, which is counted.

@@ -72,7 +72,8 @@ fn is_same(a: &[u8], b: &[u8]) -> bool
 fn owner_at(octets: &[u8]) -> Owner
     requires { 25 ≤ length octets.now }
     ensures { (h : Header) (live : ℕ) (rest : List ℕ) → h.group < 2 ^ 32
-        → h.generation < 2 ^ 64 → octets.now ≡ head h ++ (live ∷ rest) → h ≡ header_of_owner result }
+        → h.generation < 2 ^ 64 → octets.now ≡ head h ++ (live ∷ rest)
+        → h ≡ header_of_owner result }
 {
     let generation = u64::from_be_bytes([
         octets[16], octets[17], octets[18], octets[19], octets[20], octets[21], octets[22],

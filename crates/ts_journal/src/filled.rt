@@ -44,9 +44,11 @@ pub fn format_with<D: Disk>(
     requires node_to { node ≤ nodes }
     requires nodes_to { nodes ≤ 9 }
     ensures first { OnOk result ((rest : List ℕ) × ((D.state a.new).read ≡
-        head (record { node = node; nodes = nodes; group = group; generation = 1 }) ++ (1 ∷ text.now ++ rest))) }
+        head (record { node = node; nodes = nodes; group = group; generation = 1 })
+        ++ (1 ∷ text.now ++ rest))) }
     ensures second { OnOk result ((rest : List ℕ) × ((D.state b.new).read ≡
-        head (record { node = node; nodes = nodes; group = group; generation = 0 }) ++ (0 ∷ 0 ∷ rest))) }
+        head (record { node = node; nodes = nodes; group = group; generation = 0 })
+        ++ (0 ∷ 0 ∷ rest))) }
     // Each pair of images that a crash may leave opens to the entries.
     ensures opens { OnOk result ((blocks : List Block) → IsText blocks text.now
         → AnyPair (OpensFrom (record { node = node; nodes = nodes }) false (bodies_in blocks))

@@ -168,7 +168,8 @@ impl<D: Disk> Journal<D> {
         ensures holds { OnOk result ((bodies copied : List (List ℕ))
             → Holds D.state bodies copied self.old → Holds D.state copied [] self.new) }
         ensures moments { (bodies copied : List (List ℕ)) → Holds D.state bodies copied self.old
-            → EveryMoment D.state (OneOrOther (member_in self.old) bodies copied) self.old self.new }
+            → EveryMoment D.state (OneOrOther (member_in self.old) bodies copied)
+            self.old self.new }
         ensures stage { OnOk result (self.new.stage ≡ Live) }
         ensures owner { member_in self.new ≡ member_in self.old }
         ensures group { self.new.group ≡ self.old.group }

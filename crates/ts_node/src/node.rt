@@ -81,7 +81,8 @@ impl<D: Disk, C: Command + Codec, M: Machine<C>> Node<D, C, M> {
         // A crash at any moment within the call leaves nothing that it could not leave before.
         ensures moments { MatchResult result
             (λ node. NothingNew (D.state a) (D.state b) (D.state node.kept.a) (D.state node.kept.b))
-            (λ refused. NothingNew (D.state a) (D.state b) (D.state refused.a) (D.state refused.b)) }
+            (λ refused. NothingNew (D.state a) (D.state b)
+            (D.state refused.a) (D.state refused.b)) }
         // A fault other than out of memory is the record's.
         ensures fault { IfErr result (λ refused. IsFault C.octets (D.state a) (D.state b)
             (D.state refused.a) (D.state refused.b) refused.fault) }

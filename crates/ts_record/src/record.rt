@@ -168,7 +168,8 @@ impl<D: Disk, C: Codec> Record<D, C> {
         // At every moment of the call a crash leaves nothing that it could not leave before.
         ensures moments { MatchResult result
             (λ opened. NothingNew (D.state a) (D.state b) (D.state opened.a) (D.state opened.b))
-            (λ refused. NothingNew (D.state a) (D.state b) (D.state refused.a) (D.state refused.b)) }
+            (λ refused. NothingNew (D.state a) (D.state b)
+            (D.state refused.a) (D.state refused.b)) }
         ensures fault { IfErr result (λ refused. IsFault C.octets (D.state a) (D.state b)
             (D.state refused.a) (D.state refused.b) refused.fault) }
     {

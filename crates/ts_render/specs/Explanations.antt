@@ -23,7 +23,7 @@ IsAt certificates place c = (place - 1 < length certificates)
     × IsCertificate (slice_index_or certificates (place - 1) []) c
 
 -- the line on the certificate at a place: why it is not good
-pub record IsInvalidLine (certificates : List (List ℕ)) (place : ℕ) (reason : Reason (List ℕ))
+pub record IsInvalidChainLine (certificates : List (List ℕ)) (place : ℕ) (reason : Reason (List ℕ))
     (line : List ℕ) : Type 0 where
   pub certificate : (c : Certificate) → IsAt certificates place c → (given : Reason OidRef)
       × (reason_in given ≡ reason) × IsReasonLine place (length certificates) c given line
@@ -63,24 +63,24 @@ page_words count total = codes "a page of " ++ (decimal count ++ (codes " rows, 
 
 -- ---- by the reply
 
-abbrev pub Explains : StoreQuestion → Reply → List ℕ → Type 0
-Explains q (Valid anchor policies) line = line ≡ valid_words (length (certificates_in q)) anchor
-Explains q (Invalid position reason) line = IsInvalidLine (certificates_in q) position reason line
-Explains q (Found anchor places policies) line = line ≡ found_words anchor places
-Explains q NoPath line =
+abbrev pub ExplainsReply : StoreQuestion → Reply → List ℕ → Type 0
+ExplainsReply q (Valid anchor policies) line = line ≡ valid_words (length (certificates_in q)) anchor
+ExplainsReply q (Invalid position reason) line = IsInvalidChainLine (certificates_in q) position reason line
+ExplainsReply q (Found anchor places policies) line = line ≡ found_words anchor places
+ExplainsReply q NoPath line =
     line ≡ codes "no chain of these certificates is valid under a trust anchor of the store"
-Explains q SearchLimit line = line
+ExplainsReply q SearchLimit line = line
     ≡ codes "none of the first 4096 chains of these certificates is valid, and there are more"
-Explains q (NotYet prefix) line = line ≡ not_yet_words prefix
-Explains q (Malformed index fault place) line = line ≡ malformed_words index place
-Explains q NoAnchor line =
+ExplainsReply q (NotYet prefix) line = line ≡ not_yet_words prefix
+ExplainsReply q (Malformed index fault place) line = line ≡ malformed_words index place
+ExplainsReply q NoAnchor line =
     line ≡ codes "the store has no trust anchor of this id after these commands"
-Explains q Limit line = line ≡ codes "the policies have more paths than a limit"
-Explains q (Page total rows) line = line ≡ page_words (length rows) total
+ExplainsReply q Limit line = line ≡ codes "the policies have more paths than a limit"
+ExplainsReply q (Page total rows) line = line ≡ page_words (length rows) total
 
 -- such a line has printable characters of ASCII alone
 pub record IsExplanation (q : StoreQuestion) (reply : Reply) (line : List ℕ) : Type 0 where
-  pub says : Explains q reply line
+  pub says : ExplainsReply q reply line
   pub printable : list_all is_printable line ≡ true
 
 -- the same, with the line feed that ends it

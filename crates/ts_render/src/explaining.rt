@@ -3,7 +3,7 @@
 ghost use Rattle.std.specs.Prelude.{◌≡◌, ◌++◌, IfOk, OnOk, codes, length};
 ghost use Rattle.std.specs.List.{flat_map};
 ghost use Rattle.ts_render.specs.Chain.{certificates_in};
-ghost use Rattle.ts_render.specs.Explanations.{Explains, IsEnded, IsInvalidLine, found_words};
+ghost use Rattle.ts_render.specs.Explanations.{ExplainsReply, IsEnded, IsInvalidChainLine, found_words};
 ghost use Rattle.ts_render.specs.Explanations.{malformed_words, not_yet_words, page_words};
 ghost use Rattle.ts_render.specs.Explanations.{place_words, valid_words};
 
@@ -30,7 +30,7 @@ fn invalid_line(
     position: u8,
     reason: &Reason<Oid>,
 ) -> Result<Line, AllocError>
-    ensures { IfOk result (IsInvalidLine (certificates_in question.now) position reason.now) }
+    ensures { IfOk result (IsInvalidChainLine (certificates_in question.now) position reason.now) }
 {
     let certificates = certificates_in(question);
     let place = position as usize;
@@ -121,7 +121,7 @@ fn page_line(alloc: Global, total: u32, count: usize) -> Result<Line, AllocError
 ///
 /// Out of memory.
 pub(crate) fn line_of(alloc: Global, question: &Question, reply: &Reply) -> Result<Line, AllocError>
-    ensures { IfOk result (Explains question.now reply.now) }
+    ensures { IfOk result (ExplainsReply question.now reply.now) }
 {
     match reply {
         Reply::Valid { anchor, .. } => valid_line(alloc, certificates_in(question).len(), anchor),

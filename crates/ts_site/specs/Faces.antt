@@ -1,8 +1,8 @@
 -- What the calls of a connection of HTTP before a node do.
-use Rattle.std.specs.Prelude.{◌≡◌, ◌==◌, ◌⊎◌, ◌≤◌, ℕ, Bool, true, List, [], ◌∷◌}
+use Rattle.std.specs.Prelude.{◌≡◌, ◌==◌, ◌⊎◌, ◌≤◌, ◌+◌, ℕ, Bool, true, List, [], ◌∷◌}
 use Rattle.std.specs.Prelude.{Option, Some, None, codes, if◌then◌else◌, length, nat_lt}
 use Rattle.ts_http.specs.Moves.{HasAnswered, HasRead, is_ended, request_in, wrong_in}
-use Rattle.ts_http.specs.Reading.{Tells}
+use Rattle.ts_http.specs.Reading.{Tells, is_due}
 use Rattle.ts_http.specs.declared.connection.Connection.{Connection}
 use Rattle.ts_http.specs.declared.reading.Progress.TheVariants.{Waits}
 use Rattle.ts_http.specs.declared.request.Request.{Request}
@@ -81,13 +81,18 @@ IsStarved [] t = ⊥
 IsStarved (mid ∷ mids) t = Tells mid.0.stage mid.0 t.0 Waits
 
 -- nothing can be done before more comes, or nothing more is answered
-abbrev pub IsIdle : List State → State → Type 0
-IsIdle mids t = IsStarved mids t ⊎ (is_ended t.0 ≡ true)
+abbrev pub IsAtRest : List State → State → Type 0
+IsAtRest mids t = IsStarved mids t ⊎ (is_ended t.0 ≡ true)
+
+-- in how many of these states a head, or more of a body, was due
+abbrev pub count_due : List State → ℕ
+count_due [] = 0
+count_due (mid ∷ mids) = (if is_due mid.0.stage then 1 else 0) + count_due mids
 
 -- why no more is taken now: the node is to be asked; or 65,536 octets wait to leave, and this is
--- known; or nothing can be done; or there were 2^32 - 1 steps
+-- known; or nothing can be done; or what was due was read 2^32 - 2 times, and no request waits
 abbrev pub IsDone : List State → State → Bool → Type 0
 IsDone mids t paused = ((asking : Asking) × (t.1 ≡ Some asking))
     ⊎ ((paused ≡ true) × (65536 ≤ length t.0.out))
-    ⊎ IsIdle mids t
-    ⊎ (4294967295 ≤ length mids)
+    ⊎ IsAtRest mids t
+    ⊎ ((4294967294 ≤ count_due mids) × (is_due t.0.stage ≡ true))

@@ -43,4 +43,4 @@ closed MadeRoom c = record c { «open» = c.«open» - 1; made_room = sum c.made
 
 -- how many are over: they ended, were late, failed, made room, or were closed at once
 abbrev pub over : Counts → ℕ
-over c = sum (sum (sum c.ended c.late) (sum c.failed c.made_room)) c.refused
+over c = min (2 ^ 64 - 1) (c.ended + c.late + c.failed + c.made_room + c.refused)

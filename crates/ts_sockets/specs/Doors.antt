@@ -13,7 +13,7 @@ is_due AtEvent event now = event
 is_due Now event now = true
 is_due (At moment) event now = nat_le moment now
 
--- one that has shown no key is over after so many milliseconds, and each after an hour
+-- one that has shown no key is over after so many milliseconds, one that has after an hour
 abbrev pub is_over : Lock → ℕ → ℕ → Bool
 is_over lock millis now =
     nat_le (if has_begun lock.entrance.stage then 3600000 else millis) (now - lock.since)

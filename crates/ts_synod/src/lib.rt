@@ -9,7 +9,8 @@
 //! ```text
 //! let mut facts = Vec::new(alloc);
 //! facts.push(Fact::Used { round: 2 })?;
-//! let messages = broadcast(alloc, 1, 3, &Body::<Text>::Prepare { position: 1, ballot: ballot_of(1, 2) })?;
+//! let body: Body<Text> = Body::Prepare { position: 1, ballot: ballot_of(1, 2) };
+//! let messages = broadcast(alloc, 1, 3, &body)?;
 //! ```
 //!
 //! - `Ballot`, `ballot_of`: a proposal number, which no two nodes share.

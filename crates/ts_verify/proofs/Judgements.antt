@@ -1,5 +1,5 @@
 -- The verdict on the chain that is judged.
-use Rattle.std.proofs.Common.{◌≡◌, ℕ, List, ◌∷◌, ◌++◌, map, length, Some, slice_get, refl, sym, ap, ◌∙◌, subst}
+use Rattle.std.proofs.Common.{◌≡◌, ℕ, List, ◌∷◌, ◌++◌, slice_get, refl, sym, ap, ◌∙◌, subst}
 use Rattle.std.specs.Prelude.{Vec}
 use Rattle.std.specs.declared.alloc.Global.{Global}
 use Rattle.ts_der.specs.declared.oid.OidRef.{OidRef}
@@ -9,7 +9,6 @@ use Rattle.ts_path.specs.Verdict.{IsVerdict}
 use Rattle.ts_path.specs.declared.verdict.Verdict.{Verdict}
 use Rattle.ts_path.specs.declared.verdict.Verdict.TheVariants.{Valid}
 use Rattle.ts_search.specs.Search.{Search, IsSearchAnswer, certificates_at, question}
-use Rattle.ts_search.specs.declared.answer.SearchAnswer.{SearchAnswer}
 use Rattle.ts_search.specs.declared.answer.SearchAnswer.TheVariants.{Found, NoPath, SearchLimit}
 use Rattle.ts_verify.specs.Judged.{IsJudged}
 use Rattle.ts_verify.specs.inside.Judging.{IsExplained}
@@ -39,7 +38,7 @@ pub none_is : (s : Search) (place : ℕ) (chain : List Certificate) (verdict : V
 none_is s place chain verdict h e = record {
   answer = NoPath;
   is_answer = h;
-  chosen = e.line;
+  chosen = (e.line, e.under);
   anchor = e.anchor;
   anchor_is = e.anchor_is;
   verdict_is = e.verdict_is;
@@ -50,7 +49,7 @@ pub limit_is : (s : Search) (place : ℕ) (chain : List Certificate) (verdict : 
 limit_is s place chain verdict h e = record {
   answer = SearchLimit;
   is_answer = h;
-  chosen = e.line;
+  chosen = (e.line, e.under);
   anchor = e.anchor;
   anchor_is = e.anchor_is;
   verdict_is = e.verdict_is;

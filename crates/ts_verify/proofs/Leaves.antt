@@ -1,5 +1,5 @@
 -- The leaf comes first.
-use Rattle.std.proofs.Common.{◌≡◌, ℕ, suc, ◌+◌, ◌-◌, ◌<◌, ◌≤◌, List, [], ◌∷◌, ◌++◌, map, length, get_or, take, drop, refl, sym, ap, ◌∙◌, arith, subst, add-one, length-drop}
+use Rattle.std.proofs.Common.{◌≡◌, ℕ, suc, ◌+◌, ◌-◌, ◌<◌, List, ◌∷◌, ◌++◌, map, length, get_or, take, drop, sym, ap, ◌∙◌, arith, subst, add-one, length-drop}
 use Rattle.std.proofs.lemmas.List.{take_all}
 use Rattle.ts_cert.specs.declared.certificate.Cert.{Cert}
 use Rattle.ts_cert.specs.CertView.{cert_in}

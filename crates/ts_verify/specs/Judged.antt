@@ -1,22 +1,23 @@
 -- The chain that is judged, and its verdict.
-use Rattle.std.specs.Prelude.{◌≡◌, ℕ, List, map, Some, slice_get}
+use Rattle.std.specs.Prelude.{◌≡◌, ℕ, List, Some, slice_get}
 use Rattle.ts_cert.specs.Certificate.{Certificate}
-use Rattle.ts_cert.specs.CertView.{cert_in}
 use Rattle.ts_path.specs.Asked.{TrustAnchor}
 use Rattle.ts_path.specs.Verdict.{IsVerdict}
 use Rattle.ts_path.specs.declared.verdict.Verdict.{Verdict}
 use Rattle.ts_search.specs.Search.{Search, IsSearchAnswer, certificates_at, question}
 use Rattle.ts_search.specs.declared.answer.SearchAnswer.{SearchAnswer}
 use Rattle.ts_search.specs.declared.answer.SearchAnswer.TheVariants.{Found, NoPath, SearchLimit}
-use Rattle.ts_verify.specs.Lines.{IsLine}
+use Rattle.ts_verify.specs.Lines.{IsAnchorPlace, IsLine}
 
 -- the chain and the anchor, by its place, are those that the search found; where it found none, the
--- chain is one by names
+-- chain is the one by names, under the first anchor that its first certificate names as its issuer
 abbrev pub AreChosen : Search → SearchAnswer → ℕ → List Certificate → Type 0
 AreChosen s (Found number places policies) place chain =
     (place ≡ number) × (chain ≡ certificates_at s.certificates places.items)
-AreChosen s NoPath place chain = IsLine s.certificates chain
-AreChosen s SearchLimit place chain = IsLine s.certificates chain
+AreChosen s NoPath place chain =
+    IsLine s.anchors s.certificates chain × IsAnchorPlace s.anchors chain place
+AreChosen s SearchLimit place chain =
+    IsLine s.anchors s.certificates chain × IsAnchorPlace s.anchors chain place
 
 -- The verdict is that of path validation on this chain, from the anchor's side to the leaf, under
 -- the anchor at this place. It is valid wherever the search finds a chain, and then on that chain.

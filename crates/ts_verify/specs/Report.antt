@@ -1,5 +1,5 @@
 -- What is reported: the verdict on a chain, and whether its leaf is for the host that is asked.
-use Rattle.std.specs.Prelude.{◌≡◌, ◌||◌, ◌==◌, ℕ, Bool, not, List, [], ◌∷◌, map, length}
+use Rattle.std.specs.Prelude.{◌≡◌, ◌||◌, ◌==◌, Bool, not, List, [], ◌∷◌, map, length}
 use Rattle.std.specs.Prelude.{Option, Some, None, slice_get}
 use Rattle.ts_ext.specs.GeneralNames.{general_names_of}
 use Rattle.ts_ext.specs.declared.known.Known.TheVariants.{SubjectAltName}

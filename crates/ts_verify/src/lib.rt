@@ -7,7 +7,8 @@
 //!
 //! - [`verify`]: the leaf is the first certificate that issued none of the others, by names, or the
 //!   first of all where each issued another (`specs/Leaf`). The search of `ts_search` is asked for
-//!   a chain; where it finds none, the chain by names from the leaf up is judged (`specs/Lines`).
+//!   a chain; where it finds none, the chain by names from the leaf up is judged, under the first
+//!   anchor that its first certificate names as its issuer (`specs/Lines`).
 //!   The verdict is that of path validation on the chain that is reported, under the anchor that is
 //!   reported (`specs/Judged`); the finding says it, and of a valid chain whether its leaf is for
 //!   the host (`specs/Report`, `IsReport`). Out of memory is the only error.
@@ -41,10 +42,8 @@
 //!
 //! # Not promised
 //!
-//! Neither proved nor tested: which anchor and which issuers are taken for a chain by names; time.
-//!
-//! Only tested: the examples of RFC 9525 and a certificate of OpenSSL (`tests/words/verify.rows`).
-//! SRV-IDs and URI-IDs (RFC 9525 6.5) are not looked at.
+//! How long it takes. Only tested: the examples of RFC 9525 and a certificate of OpenSSL
+//! (`tests/words/verify.rows`). SRV-IDs and URI-IDs (RFC 9525 6.5) are not looked at.
 #![tactic(auto)]
 
 mod fault;

@@ -1,5 +1,5 @@
 -- The leaf and the pool are the certificates.
-use Rattle.std.proofs.Common.{◌≡◌, List, ◌∷◌, subst}
+use Rattle.std.proofs.Common.{List, subst}
 use Rattle.ts_cert.specs.declared.certificate.Cert.{Cert}
 use Rattle.ts_search.specs.Search.{IsSearchAnswer}
 use Rattle.ts_search.specs.View.{search_among}

@@ -1,5 +1,5 @@
 -- What the search found, and else what is explained.
-use Rattle.std.proofs.Common.{List, map, subst}
+use Rattle.std.proofs.Common.{map, subst}
 use Rattle.std.proofs.lemmas.Result.{IfOk-weaker}
 use Rattle.ts_cert.specs.CertView.{cert_in}
 use Rattle.ts_search.specs.Search.{IsSearchAnswer}

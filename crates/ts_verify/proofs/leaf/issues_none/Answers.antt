@@ -1,4 +1,4 @@
-use Rattle.std.proofs.Common.{◌≡◌, ◌≢◌, ℕ, ◌<◌, Bool, true, false, map, length, arith, sym, ◌∙◌, below_more, refl}
+use Rattle.std.proofs.Common.{◌≡◌, ◌≢◌, ℕ, ◌<◌, false, map, length, arith, sym, ◌∙◌, below_more, refl}
 use Rattle.std.proofs.lemmas.Bool.{false≢true}
 use Rattle.ts_cert.specs.CertView.{cert_in}
 use Rattle.ts_search.specs.Candidates.{issues}

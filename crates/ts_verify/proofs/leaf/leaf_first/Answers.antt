@@ -1,5 +1,5 @@
 -- The leaf, what is before it, and what is behind it.
-use Rattle.std.proofs.Common.{◌≡◌, List, [], ◌∷◌, ◌++◌, take, drop, length, ◌+◌, ◌-◌, ap, ◌∙◌}
+use Rattle.std.proofs.Common.{List, [], ◌∷◌, ◌++◌, take, drop, length, ◌+◌, ◌-◌, ap, ◌∙◌}
 use Rattle.ts_cert.specs.declared.certificate.Cert.{Cert}
 use Rattle.ts_verify.proofs.Leaves.{moved}
 use Rattle.ts_verify.proofs.leaf.leaf_first.Goals as goal
