@@ -10,7 +10,7 @@ use Rattle.ts_search.specs.declared.answer.SearchAnswer.TheVariants.{Found, NoPa
 use Rattle.ts_verify.specs.Lines.{IsAnchorPlace, IsLine}
 
 -- the chain and the anchor, by its place, are those that the search found; where it found none, the
--- chain is the one by names, under the first anchor that its first certificate names as its issuer
+-- chain is the one by names, under the first anchor that its top certificate names as its issuer
 abbrev pub AreChosen : Search → SearchAnswer → ℕ → List Certificate → Type 0
 AreChosen s (Found number places policies) place chain =
     (place ≡ number) × (chain ≡ certificates_at s.certificates places.items)

@@ -19,17 +19,17 @@ abbrev pub is_under : Option Certificate → Option TrustAnchor → Bool
 is_under (Some c) (Some anchor) = is_same_name c.tbsCertificate.issuer anchor.name
 is_under c anchor = false
 
--- so of the certificate at a place, and the anchor at another
+-- so of the certificate at the place i, and the anchor at the place a
 abbrev pub is_anchored : List TrustAnchor → List Certificate → ℕ → ℕ → Bool
 is_anchored anchors certificates i a = is_under (slice_get certificates i) (slice_get anchors a)
 
--- at none of the places that are used is a certificate whose subject is the issuer of the top's
+-- at the place i, which is not used, is a certificate whose subject is the issuer of the top one
 abbrev pub is_next : List Certificate → ℕ → List ℕ → ℕ → Bool
 is_next certificates top used i =
     not (list_any (λ j. j == i) used) && issues certificates i top
 
--- From the leaf the chain goes up. Above a certificate whose issuer no anchor is stands the first
--- one that is its issuer by name, and that is not in the chain yet.
+-- From the leaf the chain goes up, as long as no anchor has the name of the issuer: each time to
+-- the first certificate that has it as its subject, and that is not in the chain yet.
 abbrev pub Climbs : List TrustAnchor → List Certificate → List ℕ → Type 0
 Climbs anchors certificates [] = ⊥
 Climbs anchors certificates (top ∷ []) = top ≡ 0
@@ -37,8 +37,8 @@ Climbs anchors certificates (i ∷ top ∷ below) = Climbs anchors certificates 
     × IsFirstPlace (is_anchored anchors certificates top) None
     × IsFirstPlace (is_next certificates top (top ∷ below)) (Some i)
 
--- nothing is above the last: an anchor is its issuer by name, no certificate is that isn't in the
--- chain, or the chain has 16
+-- why nothing is above the top one: an anchor has the name of its issuer; or no certificate that is
+-- not in the chain has it as its subject; or the chain has 16
 abbrev pub HasTop : List TrustAnchor → List Certificate → List ℕ → Type 0
 HasTop anchors certificates [] = ⊥
 HasTop anchors certificates (top ∷ below) =
@@ -55,8 +55,8 @@ pub record IsLine (anchors : List TrustAnchor) (certificates chain : List Certif
   pub few : length places ≤ 16
   pub chain_is : chain ≡ certificates_at certificates places
 
--- the place of the first anchor that has the name of the issuer of the chain's first certificate;
--- 0, where none has it
+-- the place of the first anchor that has the name of the issuer of the chain's top certificate; 0,
+-- where none has it
 abbrev pub IsAnchorPlace : List TrustAnchor → List Certificate → ℕ → Type 0
 IsAnchorPlace anchors [] place = ⊥
 IsAnchorPlace anchors (top ∷ below) place =
