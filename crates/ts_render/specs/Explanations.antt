@@ -64,8 +64,10 @@ page_words count total = codes "a page of " ++ (decimal count ++ (codes " rows, 
 -- ---- by the reply
 
 abbrev pub ExplainsReply : StoreQuestion → Reply → List ℕ → Type 0
-ExplainsReply q (Valid anchor policies) line = line ≡ valid_words (length (certificates_in q)) anchor
-ExplainsReply q (Invalid position reason) line = IsInvalidChainLine (certificates_in q) position reason line
+ExplainsReply q (Valid anchor policies) line =
+    line ≡ valid_words (length (certificates_in q)) anchor
+ExplainsReply q (Invalid position reason) line =
+    IsInvalidChainLine (certificates_in q) position reason line
 ExplainsReply q (Found anchor places policies) line = line ≡ found_words anchor places
 ExplainsReply q NoPath line =
     line ≡ codes "no chain of these certificates is valid under a trust anchor of the store"

@@ -3,9 +3,9 @@
 ghost use Rattle.std.specs.Prelude.{◌≡◌, ◌++◌, IfOk, OnOk, codes, length};
 ghost use Rattle.std.specs.List.{flat_map};
 ghost use Rattle.ts_render.specs.Chain.{certificates_in};
-ghost use Rattle.ts_render.specs.Explanations.{ExplainsReply, IsEnded, IsInvalidChainLine, found_words};
-ghost use Rattle.ts_render.specs.Explanations.{malformed_words, not_yet_words, page_words};
-ghost use Rattle.ts_render.specs.Explanations.{place_words, valid_words};
+ghost use Rattle.ts_render.specs.Explanations.{ExplainsReply, IsEnded, IsInvalidChainLine};
+ghost use Rattle.ts_render.specs.Explanations.{found_words, malformed_words, not_yet_words};
+ghost use Rattle.ts_render.specs.Explanations.{page_words, place_words, valid_words};
 
 use crate::chain::certificates_in;
 use std::alloc::{AllocError, Global};

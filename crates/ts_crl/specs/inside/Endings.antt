@@ -1,6 +1,7 @@
 -- The ends of the serial numbers of entries (RFC 5280 5.1.2.6), by which it is seen that no entry
 -- has a serial number.
-use Rattle.std.specs.Prelude.{◌≡◌, ℕ, ◌+◌, ◌-◌, ◌*◌, ◌%◌, Bool, false, eqb, List, [], ◌∷◌, length, drop}
+use Rattle.std.specs.Prelude.{◌≡◌, ℕ, ◌+◌, ◌-◌, ◌*◌, ◌%◌, Bool, false, eqb}
+use Rattle.std.specs.Prelude.{List, [], ◌∷◌, length, drop}
 use Rattle.std.specs.List.{list_any}
 use Rattle.ts_crl.specs.Entries.{has_serial}
 use Rattle.ts_crl.specs.List.{RevokedCertificate}
