@@ -1,5 +1,5 @@
 //! The program `trustd`: reads the command line, and runs what it asks for. The tasks of a node are
-//! in `ts_daemon`, those of clients in `ts_client`.
+//! in `ts_daemon`, those of clients in `ts_client`, those of files alone in `ts_offline`.
 #![tactic(auto)]
 
 ghost use Rattle.std.specs.Prelude.{◌≡◌, ◌≤◌, OnErr, Ok, true, false};
@@ -14,8 +14,9 @@ use std::io::Input;
 use std::process::ExitCode;
 use ts_cli::{Task, report, task_of_process};
 use ts_exchange::Ending;
+use ts_files::TaskFault;
 use ts_lab::lab;
-use ts_offline::{TaskFault, verify_files};
+use ts_offline::verify_files;
 
 /// Ends with the status of the task that the command line asks for, and with 2 for a wrong command
 /// line. What owns the words is let go by `drop`, which keeps the proof short.

@@ -5,7 +5,7 @@ use Rattle.ts_crl.specs.List.{CertificateList}
 use Rattle.ts_path.specs.Asked.{TrustAnchor, ValidationInputs}
 use Rattle.ts_path.specs.Chain.{ChainQuestion}
 use Rattle.ts_search.specs.Search.{Search}
-use Rattle.ts_search.specs.View.{Check}
+use Rattle.ts_revoke.specs.Question.{Check}
 use Rattle.ts_question.specs.declared.terms.Terms.{Terms}
 use Rattle.ts_store.specs.Tables.{Tables}
 use Rattle.ts_store.specs.declared.anchor.TrustAnchor.{TrustAnchor as StoredAnchor}

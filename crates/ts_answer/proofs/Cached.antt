@@ -9,7 +9,7 @@ use Rattle.ts_question.specs.Question.{StoreQuestion, QuestionFits}
 use Rattle.ts_question.specs.Reply.{NumberedReply, AnswerFits, answer_encoding}
 use Rattle.ts_question.proofs.Fields.{one_question}
 use Rattle.ts_question.proofs.Replies.{one_answer}
-use Rattle.ts_search.specs.View.{Check}
+use Rattle.ts_revoke.specs.Question.{Check}
 use Rattle.ts_command.specs.declared.command.Command.{Command}
 use Rattle.ts_answer.specs.Machine.{IsAnswer}
 use Rattle.ts_answer.specs.inside.Cache.{key_of, IsCached, AreCached}

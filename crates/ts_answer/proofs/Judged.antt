@@ -1,7 +1,7 @@
 -- The reply to a question that path validation or the search answers.
 use Rattle.std.proofs.Common.{◌≡◌, ℕ, List, Result, Ok, Err, subst}
 use Rattle.std.specs.Prelude.{IfOk}
-use Rattle.ts_search.specs.View.{Check}
+use Rattle.ts_revoke.specs.Question.{Check}
 use Rattle.ts_question.specs.Question.{StoreQuestion}
 use Rattle.ts_question.specs.declared.question.Target.{Target}
 use Rattle.ts_question.specs.declared.question.Target.TheVariants.{Chain, Search, Store, Log}

@@ -24,7 +24,8 @@ use Rattle.ts_path.specs.View.{anchor_in, question_in}
 use Rattle.ts_path.specs.declared.anchor.Anchor.{Anchor}
 use Rattle.ts_path.specs.declared.inputs.Inputs.{Inputs}
 use Rattle.ts_revoke.specs.declared.crls.Crls.{Crls}
-use Rattle.ts_search.specs.View.{Check, search_in}
+use Rattle.ts_revoke.specs.Question.{Check}
+use Rattle.ts_search.specs.View.{search_in}
 use Rattle.ts_answer.specs.inside.Trusted.{trusted_in}
 use Rattle.ts_answer.specs.declared.trusted.TrustedAnchor.{TrustedAnchor}
 use Rattle.ts_der.specs.declared.oid.OidRef.{OidRef}

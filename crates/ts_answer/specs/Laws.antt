@@ -7,7 +7,7 @@ use Rattle.ts_node.specs.Machine.{store_of}
 use Rattle.ts_node.specs.Run.{Exchange, Group, Happening, RunPromises, after_all}
 use Rattle.ts_node.specs.declared.input.Input.TheVariants.{Ask}
 use Rattle.ts_node.specs.declared.input.Reply.TheVariants as replies
-use Rattle.ts_search.specs.View.{Check}
+use Rattle.ts_revoke.specs.Question.{Check}
 use Rattle.ts_question.specs.Question.{StoreQuestion, QuestionFits}
 use Rattle.ts_question.specs.Reply.{NumberedReply}
 use Rattle.ts_command.specs.Commands.{id_of}

@@ -1,6 +1,6 @@
 -- The trust store as a state machine of the protocol: the answers after a list of commands.
 use Rattle.std.specs.Prelude.{◌≡◌, List, length}
-use Rattle.ts_search.specs.View.{Check}
+use Rattle.ts_revoke.specs.Question.{Check}
 use Rattle.ts_question.specs.Question.{StoreQuestion}
 use Rattle.ts_question.specs.Reply.{NumberedReply}
 use Rattle.ts_command.specs.declared.command.Command.{Command}

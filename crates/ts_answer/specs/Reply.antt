@@ -10,7 +10,7 @@ use Rattle.ts_path.specs.Verdict as path
 use Rattle.ts_path.specs.declared.verdict.Verdict.{Verdict}
 use Rattle.ts_path.specs.declared.verdict.Verdict.TheVariants as verdict
 use Rattle.ts_search.specs.Search as search
-use Rattle.ts_search.specs.View.{Check}
+use Rattle.ts_revoke.specs.Question.{Check}
 use Rattle.ts_search.specs.declared.answer.SearchAnswer.{SearchAnswer}
 use Rattle.ts_search.specs.declared.answer.SearchAnswer.TheVariants as found
 use Rattle.ts_question.specs.Question.{StoreQuestion}

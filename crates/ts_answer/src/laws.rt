@@ -2,7 +2,7 @@
 
 ghost use Rattle.std.specs.Prelude.{◌≡◌, ◌≤◌, ℕ, List};
 ghost use Rattle.ts_node.specs.Run.{AreAllowed, Group, Happening, IsStart};
-ghost use Rattle.ts_search.specs.View.{Check};
+ghost use Rattle.ts_revoke.specs.Question.{Check};
 ghost use Rattle.ts_question.specs.Question.{StoreQuestion, QuestionFits};
 ghost use Rattle.ts_question.specs.Reply.{NumberedReply};
 ghost use Rattle.ts_command.specs.Octets.{octets_of};

@@ -4,7 +4,7 @@ use mio::{Events, Poll};
 use std::alloc::Global;
 use std::net::Net;
 use std::time::Duration;
-use ts_offline::TaskFault;
+use ts_files::TaskFault;
 
 /// Waits so many milliseconds.
 ///

@@ -16,7 +16,7 @@ use ts_exchange::{
     Ending, Saying, answer_in, answer_to_question, ask_line, ending_by, request_octets,
     submit_saying,
 };
-use ts_offline::{TaskFault, key_in, put, read_file, say};
+use ts_files::{TaskFault, key_in, put, read_file, say};
 use ts_question::{Answer, Question};
 use ts_render::explanation;
 use ts_serve::{Peer, TcpPeer, carry};

@@ -15,7 +15,7 @@ use std::random::RandomSource;
 use std::rt::{Clock, Files};
 use ts_cli::Task;
 use ts_exchange::{Ending, PageWalk, Rows, Upkeep};
-use ts_offline::{TaskFault, make_command, make_question, print_id, print_key, show_file};
+use ts_files::TaskFault;
 
 /// A task that asks for no answer ends well, unless it fails.
 pub fn well(ended: Result<(), TaskFault>) -> Result<Ending, TaskFault>
@@ -50,8 +50,8 @@ fn log_walk(from: u32, k: Option<u32>) -> PageWalk
     }
 }
 
-/// Runs a task of a client, which asks a node or makes a file. Nothing is done for the lab, for a
-/// verdict without a node, and for tasks of a node itself (`trustd`).
+/// Runs a task of a client, which asks a node. Nothing is done for the lab, for a verdict without a
+/// node, for tasks of files alone, and for tasks of a node itself (`trustd`).
 ///
 /// # Errors
 ///
@@ -94,15 +94,12 @@ fn run_other<R: AllocGlobal + Files + Net + Clock + RandomSource + Print + Eprin
         Task::Lab | Task::Verify(_) | Task::Submit { .. } | Task::Ask { .. } => Ok(()),
         Task::Store { .. } | Task::Log { .. } | Task::Diff { .. } | Task::Sync(_) => Ok(()),
         Task::Format { .. } | Task::Migrate { .. } | Task::Serve(_) => Ok(()),
+        Task::Keygen { .. } | Task::Command(_) | Task::Question(_) => Ok(()),
+        Task::Id { .. } | Task::Show { .. } => Ok(()),
         Task::Carry { addresses, rounds } => carry_messages(rt, addresses, *rounds),
         Task::Status { reach } => print_state(rt, reach),
         Task::Identify { reach } => tend_server(rt, reach, Upkeep::Identify),
         Task::CatchUp { reach } => tend_server(rt, reach, Upkeep::CatchUp),
         Task::Compact { reach } => tend_server(rt, reach, Upkeep::Compact),
-        Task::Keygen { role } => print_key(rt, *role),
-        Task::Command(words) => make_command(rt, words),
-        Task::Question(words) => make_question(rt, words),
-        Task::Id { file } => print_id(rt, file.as_str()),
-        Task::Show { file } => show_file(rt, file.as_str()),
     }
 }

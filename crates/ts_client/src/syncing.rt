@@ -16,8 +16,8 @@ use ts_command::Outcome;
 use ts_exchange::{
     Ending, Value, WantedFiles, command_of, ending_of, held_in, step_line, steps_from, value_of,
 };
+use ts_files::{TaskFault, draw_id, files_of, is_certificate, put, values_in};
 use ts_line::Line;
-use ts_offline::{TaskFault, draw_id, files_of, is_certificate, put, values_in};
 use ts_show::Kind;
 use ts_sync::PlanStep;
 use ts_wire::Frame;

@@ -9,7 +9,7 @@ use std::random::RandomSource;
 use std::rt::Files;
 use ts_cli::Reach;
 use ts_exchange::{Upkeep, upkeep_line};
-use ts_offline::{TaskFault, say};
+use ts_files::{TaskFault, say};
 use ts_serve::Peer;
 use ts_wire::FrameFault;
 

@@ -6,7 +6,7 @@ use ts_cert::Cert;
 use ts_cli::SyncWords;
 use ts_crl::Crl;
 use ts_exchange::Value;
-use ts_offline::{TaskFault, issuers_in, now, octets_of, vouch_by};
+use ts_files::{TaskFault, issuers_in, now, octets_of, vouch_by};
 use ts_show::Kind;
 
 /// Whether each of these is a CRL that a store takes; standard error says which one is none.

@@ -9,7 +9,7 @@ use std::random::RandomSource;
 use std::rt::Clock;
 use std::time::{Duration, Instant};
 use ts_command::Command;
-use ts_offline::TaskFault;
+use ts_files::TaskFault;
 use ts_wire::Frame;
 
 /// How many milliseconds pass before the node is first asked for a command's outcome. Each time it

@@ -12,13 +12,13 @@ use std::rt::{Clock, Files};
 use ts_answer::Answers;
 use ts_cli::ServeWords;
 use ts_disk::Disk;
+use ts_files::{
+    MAX_TABLE, RecordLock, TaskFault, format_files, migrate_files, open_disks, read_within,
+};
 use ts_loop::{LoopFault, serve_all};
 use ts_memo::{MemoCheck, ServedCheck};
 use ts_meter::{Meter, MeteredDisk};
 use ts_node::Node;
-use ts_offline::{
-    MAX_TABLE, RecordLock, TaskFault, format_files, migrate_files, open_disks, read_within,
-};
 use ts_peers::Group;
 use ts_serve::Server;
 use ts_sig::TableCheck;

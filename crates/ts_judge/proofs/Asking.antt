@@ -14,7 +14,8 @@ use Rattle.ts_cert.specs.CertView.{cert_in, certificate_in}
 use Rattle.ts_crl.specs.List.{CertificateList}
 use Rattle.ts_path.specs.View.{anchor_in}
 use Rattle.std.specs.Prelude.{option_map, length}
-use Rattle.ts_judge.specs.Given.{anchors_of, asked_of, asked_with, is_hard, octets_of}
+use Rattle.ts_given.specs.Given.{octets_of}
+use Rattle.ts_judge.specs.Given.{anchors_of, asked_of, asked_with, is_hard}
 use Rattle.ts_judge.specs.Judgement.{IsJudgement}
 use Rattle.ts_judge.specs.declared.given.GivenChain.{GivenChain}
 use Rattle.ts_judge.specs.declared.judging.Judgement.{Judgement}

@@ -3,5 +3,4 @@ pub mod Text
 pub mod Fields
 pub mod Given
 pub mod Judgement
-pub mod Vouching
 pub mod inside

@@ -4,12 +4,12 @@ ghost use Rattle.std.specs.Prelude.{◌≡◌, ◌≤◌, length, map, option_ma
 ghost use Rattle.ts_cert.specs.CertView.{cert_in, certificate_in};
 ghost use Rattle.ts_crl.specs.ListView.{crl_in};
 ghost use Rattle.ts_path.specs.View.{anchor_in};
-ghost use Rattle.ts_judge.specs.Given.{anchors_of, asked_of, asked_with, is_count, octets_of};
-ghost use Rattle.ts_judge.specs.Given.{AreRead, IsRefusal, is_hard};
+ghost use Rattle.ts_given.specs.Given.{octets_of};
+ghost use Rattle.ts_judge.specs.Given.{anchors_of, asked_of, asked_with, AreRead, IsRefusal};
+ghost use Rattle.ts_judge.specs.Given.{is_hard};
 ghost use Rattle.ts_judge.specs.Judgement.{IsJudgement, IsPrinted};
 ghost use Rattle.ts_judge.specs.inside.Views.{AreInputs};
 
-use crate::fault::GivenFault;
 use crate::fields::{is_valid, json};
 use crate::given::{GivenChain, VerifyOptions};
 use crate::printed::text;
@@ -17,6 +17,7 @@ use crate::reading::{Views, views_of};
 use std::alloc::{AllocError, Global};
 use ts_check::NativeCheck;
 use ts_der::OidRef;
+use ts_given::GivenFault;
 use ts_path::Inputs;
 use ts_revoke::Crls;
 use ts_verify::{Host, Report, verify};

@@ -1,5 +1,4 @@
-//! What octets come to without a node: the verdict on a chain with the text that says it, and
-//! whether a CRL is vouched for.
+//! What octets come to without a node: the verdict on a chain, with the text that says it.
 //!
 //! ```text
 //! // what files hold, each value in DER; the text that is printed, and whether the chain is valid
@@ -11,10 +10,6 @@
 //!   are checked here (`IsJudgement`, `asked_of`); two lines, or a JSON object on a line. It is
 //!   refused for the first of these (`IsRefusal`): no certificate or more than 33, no trust anchor,
 //!   a certificate that breaks a rule, a CRL that can't be used.
-//! - [`certificates_in`]: the certificates that octets are, one for one; else the first that breaks
-//!   a rule, with its place.
-//! - [`vouch_for`]: what speaks against the octets of a CRL that is to be loaded (`doubt_about`):
-//!   that they are no CRL, else the doubt of `vouch` (`ts_revoke`).
 //!
 //! The two lines are printable characters of ASCII, each ended by a line feed (`IsText`,
 //! `specs/Text`). The first has the words of the finding: `valid` and the policies, or `invalid`,
@@ -33,16 +28,11 @@
 //! Neither proved nor tested: time. What `ts_verify` doesn't promise.
 #![tactic(auto)]
 
-mod fault;
 mod fields;
 mod given;
 mod judging;
 mod printed;
 mod reading;
-mod vouching;
 
-pub use fault::GivenFault;
 pub use given::{GivenChain, VerifyOptions};
 pub use judging::{Judgement, judge};
-pub use reading::certificates_in;
-pub use vouching::{CrlDoubt, vouch_for};

@@ -1,39 +1,18 @@
 //! Files for the programs of a client: encoded commands and questions; the ids of anchors and
 //! CRLs; what files hold.
 
-use crate::fault::TaskFault;
-use crate::files::{MAX_SHOWN, read_at_most, read_within, second};
-use crate::material::{certificate_of, certificates_of, crl_of, crls_of, values_of};
-use crate::printing::put;
-use crate::vouching::vouch_for_file;
 use std::alloc::Global;
-use std::fs;
-use std::io::{ErrorKind, Print, Read};
+use std::io::{ErrorKind, Print};
 use std::rt::{Clock, Files};
 use ts_cli::{
     CommandAction, CommandWords, QuestionWords, command_octets, id_text, question_octets,
 };
+use ts_files::{
+    MAX_SHOWN, TaskFault, certificate_of, certificates_of, crl_of, crls_of, draw_id, put,
+    read_at_most, read_within, second, values_of, vouch_for_file,
+};
 use ts_pem::{PemFault, is_pem, read_certificates, read_crls};
 use ts_show::show;
-
-/// Where ids are drawn from.
-const RANDOM: &str = "/dev/urandom";
-
-/// Sixteen octets that nobody else draws.
-///
-/// # Errors
-///
-/// `File` where the system gives none.
-pub fn draw_id<R: Files>(rt: &R) -> Result<[u8; 16], TaskFault> {
-    let mut id = [0; 16];
-    let Ok(mut file) = fs::open(rt, RANDOM) else {
-        return Err(TaskFault::File);
-    };
-    match file.read_exact(&mut id) {
-        Ok(()) => Ok(id),
-        Err(_) => Err(TaskFault::File),
-    }
-}
 
 /// The id of a command: the one that is given, or a new one, which is printed on standard error, so
 /// that the command can be known again.

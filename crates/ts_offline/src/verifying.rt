@@ -2,16 +2,14 @@
 
 ghost use Rattle.std.specs.Prelude.{◌≡◌};
 
-use crate::clock::now;
-use crate::fault::TaskFault;
-use crate::material::octets_of;
-use crate::printing::put;
 use std::alloc::Global;
 use std::io::Print;
 use std::rt::{Clock, Files};
 use ts_cli::VerifyWords;
 use ts_der::Oid;
-use ts_judge::{GivenChain, GivenFault, VerifyOptions, judge};
+use ts_files::{TaskFault, now, octets_of, put};
+use ts_given::GivenFault;
+use ts_judge::{GivenChain, VerifyOptions, judge};
 use ts_show::Kind;
 use ts_time::Moment;
 use ts_verify::Host;

@@ -7,7 +7,8 @@ use Rattle.std.proofs.lemmas.Slice.Eq.{bytes_eq-Decides}
 use Rattle.std.proofs.lemmas.Bool.{false≢true}
 use Rattle.ts_cert.specs.Certificate.{KeyInfo, Certificate}
 use Rattle.ts_path.specs.Asked.{TrustAnchor}
-use Rattle.ts_path.specs.WorkingKey.{null, parameters_stated, own, is_alike, or_inherited, subject_key, nearest_key, parameters_of}
+use Rattle.ts_path.specs.WorkingKey.{is_alike, or_inherited, subject_key, nearest_key, parameters_of}
+use Rattle.ts_revoke.specs.OwnKey.{null, not_null, own}
 use Rattle.ts_path.specs.Inherited.{keys_above, States, StatesNone, HaveOneAlgorithm, AreInherited}
 
 -- ---- what a key states
@@ -21,14 +22,14 @@ kept_is q p true e = cc e
 kept_is q p false e = (refl, cc e)
 
 -- parameters as they stand, and as they are stated
-are_stated : (o : Option (List ℕ)) (p : List ℕ) → parameters_stated o ≡ Some p → (o ≡ Some p) × (p ≢ null)
+are_stated : (o : Option (List ℕ)) (p : List ℕ) → not_null o ≡ Some p → (o ≡ Some p) × (p ≢ null)
 are_stated None p e = cc e
 are_stated (Some q) p e =
     let k = kept_is q p (bytes_eq q null) e in
     (ap (λ (x : List ℕ). Some x) k.1, λ n. false≢true (sym k.0 ∙ (bytes_eq-Decides q null).1 (k.1 ∙ n)))
 
-stated_are : (o : Option (List ℕ)) (p : List ℕ) → o ≡ Some p → p ≢ null → parameters_stated o ≡ Some p
-stated_are o p e n = ap parameters_stated e ∙ by_test (bytes_eq p null) refl where
+stated_are : (o : Option (List ℕ)) (p : List ℕ) → o ≡ Some p → p ≢ null → not_null o ≡ Some p
+stated_are o p e n = ap not_null e ∙ by_test (bytes_eq p null) refl where
   by_test : (b : Bool) → bytes_eq p null ≡ b → (if b then None else Some p) ≡ Some p
   by_test true t = absurd (n ((bytes_eq-Decides p null).0 t))
   by_test false t = refl

@@ -1,11 +1,11 @@
 -- What is asked of a chain beside its certificates (RFC 5280 6.1.1).
 use Rattle.std.specs.Prelude.{ℕ, Bool, ℤ, List, Option}
 use Rattle.ts_name.specs.Canon.{Attr}
-use Rattle.ts_sig.specs.Key.{Key}
 use Rattle.ts_cert.specs.Certificate.{KeyInfo}
 use Rattle.ts_crl.specs.List.{CertificateList}
 use Rattle.ts_constraint.specs.Source.{Source}
 use Rattle.ts_policy.specs.Labels.{Label}
+use Rattle.ts_revoke.specs.Question.{Check}
 
 -- a trust anchor (6.1.1 (d)): its name, its public key, and the purposes that it is trusted for,
 -- None where for any
@@ -38,4 +38,4 @@ pub record ValidationInputs : Type 0 where
   pub deltas : List CertificateList
   pub use_deltas : Bool
   -- the check of a signature: by which algorithm, under which key, of which octets
-  pub good : List ℕ → Key → List ℕ → List ℕ → Bool
+  pub good : Check

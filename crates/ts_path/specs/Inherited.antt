@@ -5,7 +5,8 @@ use Rattle.std.specs.Prelude.{◌≡◌, ◌≢◌, ℕ, List, [], ◌∷◌, �
 use Rattle.std.specs.List.{All}
 use Rattle.ts_cert.specs.Certificate.{KeyInfo, Certificate}
 use Rattle.ts_path.specs.Asked.{TrustAnchor}
-use Rattle.ts_path.specs.WorkingKey.{null, subject_key}
+use Rattle.ts_path.specs.WorkingKey.{subject_key}
+use Rattle.ts_revoke.specs.OwnKey.{null}
 
 -- the keys above a certificate, the nearest first, the last that of the anchor
 abbrev pub keys_above : TrustAnchor → List Certificate → List KeyInfo

@@ -1,6 +1,5 @@
 -- What contracts see of a question.
-use Rattle.std.specs.Prelude.{ℕ, Bool, List, map, option_map}
-use Rattle.ts_sig.specs.Key.{Key}
+use Rattle.std.specs.Prelude.{Bool, List, map, option_map}
 use Rattle.ts_name.specs.NameView.{rdns_in}
 use Rattle.ts_cert.specs.declared.certificate.Cert.{Cert}
 use Rattle.ts_cert.specs.CertView.{cert_in}
@@ -8,6 +7,7 @@ use Rattle.ts_cert.specs.View.{key_in}
 use Rattle.ts_cert.specs.Certificate.{Certificate}
 use Rattle.ts_crl.specs.ListView.{crl_in}
 use Rattle.ts_constraint.specs.View.{bases_in}
+use Rattle.ts_revoke.specs.Question.{Check}
 use Rattle.ts_revoke.specs.declared.crls.Crls.{Crls}
 use Rattle.ts_policy.specs.Paths.{CertPolicies}
 use Rattle.ts_path.specs.declared.anchor.Anchor.{Anchor}
@@ -25,8 +25,7 @@ anchor_in a = record {
 }
 
 -- what is asked of a chain under a trust anchor
-abbrev pub asked_under : Inputs → Crls → (List ℕ → Key → List ℕ → List ℕ → Bool) → TrustAnchor
-    → ValidationInputs
+abbrev pub asked_under : Inputs → Crls → Check → TrustAnchor → ValidationInputs
 asked_under inputs crls good anchor = record {
   anchor = anchor;
   moment = inputs.moment;
@@ -46,12 +45,10 @@ asked_under inputs crls good anchor = record {
   good = good;
 }
 
-abbrev pub asked_in : Anchor → Inputs → Crls → (List ℕ → Key → List ℕ → List ℕ → Bool)
-    → ValidationInputs
+abbrev pub asked_in : Anchor → Inputs → Crls → Check → ValidationInputs
 asked_in anchor inputs crls good = asked_under inputs crls good (anchor_in anchor)
 
-abbrev pub question_in : Anchor → List Cert → Inputs → Crls
-    → (List ℕ → Key → List ℕ → List ℕ → Bool) → ChainQuestion
+abbrev pub question_in : Anchor → List Cert → Inputs → Crls → Check → ChainQuestion
 question_in anchor chain inputs crls good =
     record { asked = asked_in anchor inputs crls good; chain = map cert_in chain }
 

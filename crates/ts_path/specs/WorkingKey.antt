@@ -1,24 +1,11 @@
 -- The key under which a certificate's signature is checked (RFC 5280 6.1.1 (d), 6.1.2 (g) to (i),
 -- 6.1.4 (d) to (f)).
-use Rattle.std.specs.Prelude.{ℕ, Bool, List, [], ◌∷◌, Option, Some, None}
-use Rattle.std.specs.Prelude.{if◌then◌else◌}
+use Rattle.std.specs.Prelude.{ℕ, Bool, List, [], ◌∷◌, Option, Some, None, if◌then◌else◌}
 use Rattle.std.specs.Str.{bytes_eq}
 use Rattle.ts_sig.specs.Key.{Key}
 use Rattle.ts_cert.specs.Certificate.{KeyInfo, Certificate}
+use Rattle.ts_revoke.specs.OwnKey.{own}
 use Rattle.ts_path.specs.Asked.{TrustAnchor}
-
--- NULL as a whole element (X.690 8.8)
-abbrev pub null : List ℕ
-null = 5 ∷ 0 ∷ []
-
--- parameters that are not NULL
-abbrev pub parameters_stated : Option (List ℕ) → Option (List ℕ)
-parameters_stated None = None
-parameters_stated (Some p) = if bytes_eq p null then None else Some p
-
--- the parameters that a key states
-abbrev pub own : KeyInfo → Option (List ℕ)
-own k = parameters_stated k.algorithm.parameters
 
 -- two keys have one algorithm
 abbrev pub is_alike : KeyInfo → KeyInfo → Bool

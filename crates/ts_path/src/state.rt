@@ -8,13 +8,14 @@ ghost use Rattle.ts_path.specs.State.{state_at};
 
 use crate::context::Context;
 use crate::counters::Counters;
-use crate::working_key::{key_after, key_of_anchor};
+use crate::working_key::key_after;
 use std::alloc::{AllocError, Global};
 use std::marker::Model;
 use ts_cert::Cert;
 use ts_constraint::Bounds;
 use ts_ext::KeyUsage;
 use ts_name::Name;
+use ts_revoke::own_key;
 use ts_sig::{SignatureCheck, WorkingKey};
 
 /// The state variables at a certificate (RFC 5280 6.1.2), without the valid policy tree.
@@ -64,7 +65,7 @@ impl<'a> State<'a> {
         Ok(State {
             passed: 0,
             name: anchor.name,
-            key: key_of_anchor(&anchor.key),
+            key: own_key(&anchor.key),
             usage: None,
             bounds: Bounds::initial(alloc, inputs.permitted_subtrees, inputs.excluded_subtrees)?,
             counters: Counters::start(length, inputs),

@@ -4,40 +4,11 @@ ghost use Rattle.std.specs.Prelude.{◌≡◌};
 ghost use Rattle.std.specs.Option.{option_copied};
 ghost use Rattle.ts_sig.specs.Key.{key_of};
 ghost use Rattle.ts_cert.specs.View.{key_in};
-ghost use Rattle.ts_path.specs.WorkingKey.{parameters_stated, own};
 ghost use Rattle.ts_path.specs.inside.Judging.{key_after as after};
 
 use ts_cert::SubjectPublicKeyInfo;
+use ts_revoke::own_key;
 use ts_sig::WorkingKey;
-
-/// NULL as a whole element (X.690 8.8).
-const NULL: [u8; 2] = [0x05, 0x00];
-
-/// Parameters that are not NULL.
-fn stated_parameters(parameters: Option<&[u8]>) -> Option<&[u8]>
-    ensures { option_copied result ≡ parameters_stated (option_copied parameters.entry) }
-{
-    match parameters {
-        Some(element) if element != NULL.as_slice() => Some(element),
-        _ => None,
-    }
-}
-
-/// The key of an anchor, which has no issuer whose parameters it could inherit (RFC 5280 6.1.2 (g)
-/// to (i)).
-pub(crate) fn key_of_anchor<'a>(key: &SubjectPublicKeyInfo<'a>) -> WorkingKey<'a>
-    ensures { key_of result ≡ record {
-      algorithm = (key_in key.now).algorithm.algorithm;
-      parameters = own (key_in key.now);
-      octets = (key_in key.now).subjectPublicKey;
-    } }
-{
-    WorkingKey {
-        algorithm: key.algorithm.algorithm,
-        parameters: stated_parameters(key.algorithm.parameters),
-        octets: key.subject_public_key,
-    }
-}
 
 /// The key of a certificate, which inherits the parameters of the key before it if it states none
 /// and has the same algorithm (RFC 5280 6.1.4 (d) to (f)).
@@ -58,7 +29,7 @@ pub(crate) fn key_after<'a>(
 fn parameters_after<'a>(before: &WorkingKey<'a>, key: &SubjectPublicKeyInfo<'a>) -> Option<&'a [u8]>
     ensures { option_copied result ≡ (after (key_of before.now) (key_in key.now)).parameters }
 {
-    let own = stated_parameters(key.algorithm.parameters);
+    let own = own_key(key).parameters;
     if own.is_none() && key.algorithm.algorithm == before.algorithm {
         return before.parameters;
     }

@@ -3,52 +3,31 @@
 use Rattle.std.specs.Prelude.{ℕ, ℤ, Bool, true, false, ◌&&◌, not, int_le, int_lt, List, [], ◌∷◌}
 use Rattle.std.specs.Prelude.{Option, Some, None, if◌then◌else◌}
 use Rattle.std.specs.List.{list_any}
-use Rattle.std.specs.Str.{bytes_eq}
 use Rattle.ts_name.specs.Sameness.{is_same_name}
 use Rattle.ts_ext.specs.declared.known.Known.TheVariants.{KeyUsage}
-use Rattle.ts_ext.specs.NamedBits.{bit}
 use Rattle.ts_ext.specs.Reading.{key_usage_of}
 use Rattle.ts_field.specs.declared.time.Time.{Time}
 use Rattle.ts_cert.specs.Certificate.{Certificate}
 use Rattle.ts_cert.specs.Stated.{stated_value}
 use Rattle.ts_crl.specs.List.{CertificateList}
-use Rattle.ts_sig.specs.Key.{Key}
+use Rattle.ts_revoke.specs.OwnKey.{own_key}
+use Rattle.ts_revoke.specs.Question.{Check}
+use Rattle.ts_revoke.specs.Usable.{may_sign_crl}
 use Rattle.ts_revoke.specs.declared.doubt.Doubt.{Doubt}
 use Rattle.ts_revoke.specs.declared.doubt.Doubt.TheVariants.{NoIssuer, Signature, NotYet, Expired}
 
--- whether a signature is good: of the algorithm, the key, the signed octets and the signature
-abbrev pub Check : Type 0
-Check = List ℕ → Key → List ℕ → List ℕ → Bool
-
 -- ---- who signed it
-
--- a keyUsage, where the certificate states one, has cRLSign, which is bit 6 (6.3.3 (f))
-abbrev pub may_sign_crl : Option (List Bool) → Bool
-may_sign_crl None = true
-may_sign_crl (Some bits) = bit 6 bits
 
 -- the certificate's subject is the issuer of the CRL, and its key may sign CRLs (6.3.3 (f))
 unfoldable pub is_issuer : CertificateList → Certificate → Bool
 is_issuer l c = is_same_name l.tbsCertList.issuer c.tbsCertificate.subject
     && may_sign_crl (stated_value KeyUsage key_usage_of c.tbsCertificate)
 
--- parameters that are not NULL (X.690 8.8)
-abbrev pub not_null : Option (List ℕ) → Option (List ℕ)
-not_null None = None
-not_null (Some p) = if bytes_eq p (5 ∷ 0 ∷ []) then None else Some p
-
--- the key of a certificate, by its own parameters (6.1.4 (d) to (f))
-abbrev pub key_in : Certificate → Key
-key_in c = record {
-  algorithm = c.tbsCertificate.subjectPublicKeyInfo.algorithm.algorithm;
-  parameters = not_null c.tbsCertificate.subjectPublicKeyInfo.algorithm.parameters;
-  octets = c.tbsCertificate.subjectPublicKeyInfo.subjectPublicKey;
-}
-
 -- the certificate is one of the CRL's issuer, and its key signed the CRL (6.3.3 (g))
 unfoldable pub has_signed : Check → CertificateList → Certificate → Bool
 has_signed good l c = is_issuer l c
-    && good l.signatureAlgorithm.whole (key_in c) l.tbs l.signatureValue
+    && good l.signatureAlgorithm.whole (own_key c.tbsCertificate.subjectPublicKeyInfo) l.tbs
+    l.signatureValue
 
 -- ---- when it is current
 

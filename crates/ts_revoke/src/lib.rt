@@ -60,7 +60,7 @@
 //! a CRL's scope is a product, under the issuer's own signature).
 //!
 //! That the certificates are valid: who names them trusts them. Parameters of a key that are
-//! inherited from the certificate above (RFC 5280 6.1.4 (f)) are not.
+//! inherited from the certificate above (RFC 5280 6.1.4 (f)) are not looked for ([`own_key`]).
 #![tactic(auto)]
 
 mod crls;
@@ -71,6 +71,7 @@ mod entries;
 mod found;
 mod issuer;
 mod issuer_pass;
+mod key;
 pub mod laws;
 mod list_issuer;
 mod looked;
@@ -90,5 +91,6 @@ pub use crls::Crls;
 pub use decision::status;
 pub use doubt::Doubt;
 pub use issuer::Issuer;
+pub use key::own_key;
 pub use verdict::Status;
 pub use vouching::vouch;

@@ -43,7 +43,7 @@ pub(crate) fn is_signed<S: SignatureCheck>(crl: &Crl<'_>, q: &Question<'_>, chec
 }
 
 /// Whether the issuer may sign CRLs, as far as its certificate says.
-fn may_sign(usage: Option<KeyUsage<'_>>) -> bool
+pub(crate) fn may_sign(usage: Option<KeyUsage<'_>>) -> bool
     ensures { result ≡ usage_may_sign (option_map (λ u. bits_in u.bits) usage.entry) }
 {
     match usage {

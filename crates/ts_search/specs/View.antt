@@ -1,17 +1,13 @@
 -- What contracts see of a search.
-use Rattle.std.specs.Prelude.{ℕ, Bool, List, ◌∷◌, map}
-use Rattle.ts_sig.specs.Key.{Key}
+use Rattle.std.specs.Prelude.{List, ◌∷◌, map}
 use Rattle.ts_cert.specs.declared.certificate.Cert.{Cert}
 use Rattle.ts_cert.specs.CertView.{cert_in}
+use Rattle.ts_revoke.specs.Question.{Check}
 use Rattle.ts_revoke.specs.declared.crls.Crls.{Crls}
 use Rattle.ts_path.specs.declared.anchor.Anchor.{Anchor}
 use Rattle.ts_path.specs.declared.inputs.Inputs.{Inputs}
 use Rattle.ts_path.specs.View.{anchor_in, asked_under}
 use Rattle.ts_search.specs.Search.{Search}
-
--- the check of a signature
-abbrev pub Check : Type 0
-Check = List ℕ → Key → List ℕ → List ℕ → Bool
 
 -- among these certificates, of which the first is the leaf
 abbrev pub search_among : List Cert → List Anchor → Inputs → Crls → Check → Search

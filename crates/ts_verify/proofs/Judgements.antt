@@ -38,7 +38,7 @@ pub none_is : (s : Search) (place : ℕ) (chain : List Certificate) (verdict : V
 none_is s place chain verdict h e = record {
   answer = NoPath;
   is_answer = h;
-  chosen = (e.line, e.under);
+  chosen = e.line;
   anchor = e.anchor;
   anchor_is = e.anchor_is;
   verdict_is = e.verdict_is;
@@ -49,7 +49,7 @@ pub limit_is : (s : Search) (place : ℕ) (chain : List Certificate) (verdict : 
 limit_is s place chain verdict h e = record {
   answer = SearchLimit;
   is_answer = h;
-  chosen = (e.line, e.under);
+  chosen = e.line;
   anchor = e.anchor;
   anchor_is = e.anchor_is;
   verdict_is = e.verdict_is;

@@ -1,5 +1,6 @@
 pub mod Places
 pub mod Leaves
+pub mod Preferred
 pub mod Named
 pub mod Judgements
 pub mod Dots

@@ -7,7 +7,7 @@ ghost use Rattle.ts_search.specs.View.{search_among};
 ghost use Rattle.ts_verify.specs.Judged.{IsJudged};
 ghost use Rattle.ts_verify.specs.inside.Judging.{IsExplained};
 
-use crate::line::{anchor_above, line_of};
+use crate::line::line_of;
 use std::alloc::{AllocError, Global};
 use ts_cert::Cert;
 use ts_path::{Anchor, Inputs, Verdict, validate};
@@ -35,13 +35,15 @@ fn explain<'a, S: SignatureCheck>(
     check: &S,
 ) -> Result<JudgedChain<'a>, AllocError>
     requires some { 1 ≤ length certificates.now }
+    requires few { length certificates.now ≤ 33 }
     requires anchored { 1 ≤ length anchors.now }
     ensures { IfOk result (λ j. IsExplained
         (search_among certificates.now anchors.now inputs.now crls.now (S.accepts check.now))
         j.place (map cert_in j.chain.items) j.verdict) }
 {
-    let chain = line_of(alloc, certificates, anchors)?;
-    let place = anchor_above(anchors, &chain[0]).unwrap_or(0);
+    let line = line_of(alloc, certificates, anchors, check)?;
+    let chain = certificates_at(alloc, certificates, &line.places)?;
+    let place = line.anchor.unwrap_or(0);
     let anchor = anchors[place];
     let verdict = validate(alloc, &anchor, &chain, inputs, crls, check)?;
     Ok(JudgedChain {

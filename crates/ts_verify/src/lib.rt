@@ -7,8 +7,9 @@
 //!
 //! - [`verify`]: the leaf is the first certificate that issued none of the others, by names, or the
 //!   first of all where each issued another (`specs/Leaf`). The search of `ts_search` is asked for
-//!   a chain; where it finds none, the chain by names from the leaf up is judged, under the first
-//!   anchor that its top certificate names as its issuer (`specs/Lines`).
+//!   a chain; where it finds none, the chain by names from the leaf up is judged, under an anchor
+//!   that its top certificate names as its issuer; of several with one name the first whose key has
+//!   signed counts, else the first (`specs/Lines`).
 //!   The verdict is that of path validation on the chain that is reported, under the anchor that is
 //!   reported (`specs/Judged`); the finding says it, and of a valid chain whether its leaf is for
 //!   the host (`specs/Report`, `IsReport`). Out of memory is the only error.

@@ -1,16 +1,41 @@
 //! A chain by names, where no chain is valid.
 
-ghost use Rattle.std.specs.Prelude.{◌≡◌, ◌≤◌, ◌<◌, ◌∷◌, Some, length, map, slice_get, IfOk};
-ghost use Rattle.std.specs.Prelude.{IfSome};
+ghost use Rattle.std.specs.Prelude.{◌≡◌, ◌≤◌, ◌<◌, length, map, IfOk, IfSome};
 ghost use Rattle.ts_cert.specs.CertView.{cert_in};
+ghost use Rattle.ts_cert.specs.View.{key_in};
 ghost use Rattle.ts_name.specs.Sameness.{is_same_name};
 ghost use Rattle.ts_path.specs.View.{anchor_in};
-ghost use Rattle.ts_verify.specs.Lines.{IsFirstPlace, IsLine, is_next, is_under};
+ghost use Rattle.ts_verify.specs.Lines.{has_signed as has_signed_of};
+ghost use Rattle.ts_verify.specs.Lines.{IsAnchorAbove, IsNextAbove};
+ghost use Rattle.ts_verify.specs.inside.Climbing.{IsClimbed};
 
 use crate::leaf::issues;
 use std::alloc::{AllocError, Global};
-use ts_cert::Cert;
+use ts_cert::{Cert, SubjectPublicKeyInfo};
 use ts_path::{Anchor, MAX_CHAIN};
+use ts_revoke::own_key;
+use ts_sig::{Message, SignatureCheck};
+
+/// A chain by names.
+#[derive(Drop)]
+pub(crate) struct Line {
+    /// The places of its certificates, from the anchor's side to the leaf.
+    pub(crate) places: Vec<u8>,
+    /// The place of the anchor above it, where one has the name of the top certificate's issuer.
+    pub(crate) anchor: Option<usize>,
+}
+
+/// Whether a key has signed a certificate.
+fn has_signed<S: SignatureCheck>(key: &SubjectPublicKeyInfo<'_>, cert: &Cert<'_>, check: &S) -> bool
+    ensures { result ≡ has_signed_of (S.accepts check.now) (key_in key.now) (cert_in cert.now) }
+{
+    check.good(
+        cert.signature_algorithm().whole,
+        &own_key(key),
+        &Message::of(cert.tbs()),
+        cert.signature(),
+    )
+}
 
 /// Whether a certificate's issuer has the name of an anchor.
 fn is_issued_under(cert: &Cert<'_>, anchor: &Anchor<'_>) -> bool
@@ -20,77 +45,91 @@ fn is_issued_under(cert: &Cert<'_>, anchor: &Anchor<'_>) -> bool
     cert.issuer().same(anchor.name)
 }
 
-/// The place of the first anchor that has the name of a certificate's issuer.
-pub(crate) fn anchor_above(anchors: &[Anchor<'_>], cert: &Cert<'_>) -> Option<usize>
-    ensures first { IsFirstPlace (λ a. is_under (Some (cert_in cert.now))
-        (slice_get (map anchor_in anchors.now) a)) result }
+/// The place of the first anchor that has the name of the issuer of the certificate at `top`, and
+/// whose key has signed that one; where none has, of the first that has the name.
+fn anchor_above<S: SignatureCheck>(
+    anchors: &[Anchor<'_>],
+    certificates: &[Cert<'_>],
+    top: usize,
+    check: &S,
+) -> Option<usize>
+    requires { top < length certificates.now }
+    ensures above { IsAnchorAbove (S.accepts check.now) (map anchor_in anchors.now)
+        (map cert_in certificates.now) top result }
     ensures within { IfSome result (λ place. place < length anchors.now) }
 {
+    let cert = certificates[top];
+    let mut named = None;
     for place in 0..anchors.len() {
-        if is_issued_under(cert, &anchors[place]) {
-            return Some(place);
+        let anchor = anchors[place];
+        if is_issued_under(&cert, &anchor) {
+            if has_signed(&anchor.key, &cert, check) {
+                return Some(place);
+            }
+            named = named.or(Some(place));
         }
     }
-    None
+    named
 }
 
-/// The place of the first certificate that is at none of these places, and whose subject is the
-/// issuer of the one at `top`.
-fn next_place(certificates: &[Cert<'_>], top: usize, used: &[usize]) -> Option<usize>
-    requires { top < length certificates.now }
-    ensures first { IsFirstPlace (is_next (map cert_in certificates.now) top used.now) result }
+/// The place of the first certificate that is at none of these places, whose subject is the issuer
+/// of the one at `top`, and whose key has signed that one; where none has, of the first that has
+/// the name.
+fn next_above<S: SignatureCheck>(
+    certificates: &[Cert<'_>],
+    top: usize,
+    used: &[u8],
+    check: &S,
+) -> Option<usize>
+    requires top { top < length certificates.now }
+    requires few { length certificates.now ≤ 33 }
+    ensures above { IsNextAbove (S.accepts check.now) (map cert_in certificates.now) top used.now
+        result }
     ensures within { IfSome result (λ place. place < length certificates.now) }
 {
+    let cert = certificates[top];
+    let mut named = None;
     for place in 0..certificates.len() {
-        if !used.contains(&place) && issues(&certificates[place], &certificates[top]) {
-            return Some(place);
+        let above = certificates[place];
+        if !used.contains(&(place as u8)) && issues(&above, &cert) {
+            if has_signed(&above.subject_public_key_info(), &cert, check) {
+                return Some(place);
+            }
+            named = named.or(Some(place));
         }
     }
-    None
+    named
 }
 
-/// A chain with one certificate above it.
-fn with_above<'a>(
+/// The chain from the leaf, which is the first, up by names: each time to the certificate above
+/// that is not in the chain yet, until an anchor has the name, or none.
+pub(crate) fn line_of<S: SignatureCheck>(
     alloc: Global,
-    above: Cert<'a>,
-    chain: &[Cert<'a>],
-) -> Result<Vec<Cert<'a>>, AllocError>
-    ensures { IfOk result (λ longer. longer.items ≡ above.entry ∷ chain.now) }
-{
-    let mut longer = Vec::new(alloc);
-    longer.push(above)?;
-    longer.extend_from_slice(chain)?;
-    Ok(longer)
-}
-
-/// The chain from the leaf, which is the first, up by names: each time to the first certificate
-/// that has the name and is not in the chain yet, until an anchor has it, or none.
-pub(crate) fn line_of<'a>(
-    alloc: Global,
-    certificates: &[Cert<'a>],
+    certificates: &[Cert<'_>],
     anchors: &[Anchor<'_>],
-) -> Result<Vec<Cert<'a>>, AllocError>
-    requires { 1 ≤ length certificates.now }
-    ensures line { IfOk result (λ chain. IsLine (map anchor_in anchors.now)
-        (map cert_in certificates.now) (map cert_in chain.items)) }
-    ensures some { IfOk result (λ chain. 1 ≤ length chain.items) }
-    ensures few { IfOk result (λ chain. length chain.items ≤ 16) }
+    check: &S,
+) -> Result<Line, AllocError>
+    requires some { 1 ≤ length certificates.now }
+    requires few { length certificates.now ≤ 33 }
+    ensures line { IfOk result (λ line. IsClimbed (S.accepts check.now) (map anchor_in anchors.now)
+        (map cert_in certificates.now) line.places.items line.anchor) }
+    ensures within { IfOk result
+        (λ line. IfSome line.anchor (λ place. place < length anchors.now)) }
 {
     let mut top = 0;
     let mut places = Vec::new(alloc);
-    places.push(top)?;
-    let mut chain = with_above(alloc, certificates[top], &[])?;
-    while chain.len() < MAX_CHAIN {
-        if anchor_above(anchors, &certificates[top]).is_some() {
-            return Ok(chain);
+    places.push(0)?;
+    while places.len() < MAX_CHAIN {
+        let anchor = anchor_above(anchors, certificates, top, check);
+        if anchor.is_some() {
+            return Ok(Line { places, anchor });
         }
-        let Some(next) = next_place(certificates, top, &places) else {
-            return Ok(chain);
+        let Some(next) = next_above(certificates, top, &places, check) else {
+            return Ok(Line { places, anchor });
         };
-        places.insert(0, next)?;
-        let longer = with_above(alloc, certificates[next], &chain)?;
-        chain = longer;
+        places.insert(0, next as u8)?;
         top = next;
     }
-    Ok(chain)
+    let anchor = anchor_above(anchors, certificates, top, check);
+    Ok(Line { places, anchor })
 }

@@ -4,7 +4,7 @@ use Rattle.std.specs.Prelude.{◌≡◌, ◌≤◌, ◌<◌, ◌^◌, ◌++◌, 
 use Rattle.std.specs.Int.{to_be_bytes, w32}
 use Rattle.ts_question.specs.Question.{StoreQuestion, QuestionFits, question_encoding}
 use Rattle.ts_question.specs.Reply.{NumberedReply, AnswerFits, answer_encoding}
-use Rattle.ts_search.specs.View.{Check}
+use Rattle.ts_revoke.specs.Question.{Check}
 use Rattle.ts_command.specs.declared.command.Command.{Command}
 use Rattle.ts_answer.specs.Machine.{IsAnswer}
 

@@ -8,7 +8,7 @@ use Rattle.ts_path.specs.Asked.{TrustAnchor}
 use Rattle.ts_path.specs.View.{asked_under}
 use Rattle.ts_path.specs.declared.inputs.Inputs.{Inputs}
 use Rattle.ts_revoke.specs.declared.crls.Crls.{Crls}
-use Rattle.ts_search.specs.View.{Check}
+use Rattle.ts_revoke.specs.Question.{Check}
 use Rattle.ts_question.specs.declared.question.Target.{Target}
 use Rattle.ts_question.specs.declared.question.Target.TheVariants.{Store, Log}
 use Rattle.ts_question.specs.declared.terms.Terms.{Terms}

@@ -7,7 +7,8 @@ use Rattle.ts_path.specs.Asked.{TrustAnchor}
 use Rattle.ts_path.specs.View.{anchor_in, asked_under}
 use Rattle.ts_path.specs.declared.inputs.Inputs.{Inputs}
 use Rattle.ts_revoke.specs.declared.crls.Crls.{Crls}
-use Rattle.ts_judge.specs.Given.{anchors_of, asked_with, deltas_of, lists_of, octets_of}
+use Rattle.ts_given.specs.Given.{deltas_of, lists_of, octets_of}
+use Rattle.ts_judge.specs.Given.{anchors_of, asked_with}
 use Rattle.ts_judge.specs.declared.given.VerifyOptions.{VerifyOptions}
 use Rattle.ts_judge.specs.declared.given.GivenChain.{GivenChain}
 use Rattle.ts_judge.specs.declared.reading.Views.{Views}

@@ -23,7 +23,8 @@ use Rattle.ts_path.specs.Counters.{counted}
 use Rattle.ts_path.specs.Extensions.{path_length_of, explicit_policy_of, inhibit_policy_mapping_of}
 use Rattle.ts_path.specs.Extensions.{any_policy_of}
 use Rattle.ts_path.specs.State.{PathState, policies_at}
-use Rattle.ts_path.specs.WorkingKey.{own, or_inherited, subject_key}
+use Rattle.ts_path.specs.WorkingKey.{or_inherited, subject_key}
+use Rattle.ts_revoke.specs.OwnKey.{own}
 use Rattle.ts_der.specs.declared.oid.OidRef.{OidRef}
 use Rattle.ts_reason.specs.declared.reason.Reason.{Reason}
 use Rattle.ts_path.specs.Conditions.{Site, Meets, policies_to, Accepts}

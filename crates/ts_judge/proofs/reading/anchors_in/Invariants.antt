@@ -1,6 +1,7 @@
 use Rattle.std.proofs.Common.{◌≡◌, ◌+◌, ◌++◌, map, drop, length}
 use Rattle.ts_path.specs.View.{anchor_in}
-use Rattle.ts_judge.specs.Given.{anchors_of, octets_of}
+use Rattle.ts_given.specs.Given.{octets_of}
+use Rattle.ts_judge.specs.Given.{anchors_of}
 use Rattle.ts_judge.proofs.reading.anchors_in.Given as goal
 
 abbrev pub invariant-loop-octets : goal.invariant-loop-octets

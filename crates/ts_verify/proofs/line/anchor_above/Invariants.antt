@@ -1,10 +1,15 @@
--- No anchor before has the name.
-use Rattle.std.proofs.Common.{◌≡◌, ℕ, ◌<◌, false, Some, map, slice_get}
+-- What is known of the anchors before.
+use Rattle.std.proofs.Common.{map}
 use Rattle.ts_cert.specs.CertView.{cert_in}
 use Rattle.ts_path.specs.View.{anchor_in}
-use Rattle.ts_verify.specs.Lines.{is_under}
+use Rattle.ts_verify.specs.Lines.{is_anchored}
+use Rattle.ts_verify.proofs.Named.{signs_under}
+use Rattle.ts_verify.proofs.Preferred.{IsSought}
 use Rattle.ts_verify.proofs.line.anchor_above.Given as goal
 
 abbrev pub invariant-loop-place : goal.invariant-loop-place
-invariant-loop-place l = (i : ℕ) → i < l.place
-    → is_under (Some (cert_in l.cert)) (slice_get (map anchor_in l.anchors) i) ≡ false
+invariant-loop-place g l =
+    let anchors = map anchor_in l.anchors in
+    let certs = map cert_in l.certificates in
+    let good = g.S.SignatureCheck.accepts l.check in
+    IsSought (is_anchored anchors certs l.top) (signs_under good anchors certs l.top) l.place l.named

@@ -12,7 +12,7 @@ unfolding state_at counters_at parameters_of
 returns g c = λ i. record {
   passed = 0;
   name = rdns_in c.args.context.now.anchor.now.name;
-  key = c.key_of_anchor.ensures i;
+  key = c.own_key.ensures i;
   usage = None;
   sources = c.in_ok-initial.ensures i;
   counters = record {

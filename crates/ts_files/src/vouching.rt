@@ -6,7 +6,7 @@ use crate::material::octets_of;
 use std::alloc::Global;
 use std::rt::{Clock, Files};
 use ts_cert::Cert;
-use ts_judge::{GivenFault, certificates_in, vouch_for};
+use ts_given::{GivenFault, certificates_in, vouch_for};
 use ts_show::Kind;
 use ts_time::Moment;
 
@@ -61,7 +61,7 @@ pub fn vouch_by(
 ///
 /// Those of the files; `Field` where one holds no certificate; `Clock`; `BadCrl` where the octets
 /// are no CRL, or something speaks against it.
-pub(crate) fn vouch_for_file<R: Files + Clock + Eprint>(
+pub fn vouch_for_file<R: Files + Clock + Eprint>(
     rt: &R,
     alloc: Global,
     path: &str,

@@ -1,7 +1,7 @@
 use Rattle.std.proofs.Common.{◌≡◌, ◌+◌, ◌++◌, map, drop}
 use Rattle.ts_crl.specs.ListView.{crl_in}
-use Rattle.ts_judge.specs.Given.{deltas_of, first_crl, lists_of, octets_of}
-use Rattle.ts_judge.proofs.reading.crls_in.Given as goal
+use Rattle.ts_given.specs.Given.{deltas_of, first_crl, lists_of, octets_of}
+use Rattle.ts_given.proofs.reading.crls_in.Given as goal
 
 abbrev pub invariant-loop-i : goal.invariant-loop-i
 invariant-loop-i l = record {

@@ -28,7 +28,11 @@ pub fn fault_of(rt: &impl Eprint, path: &str, error: &Error) -> TaskFault {
 }
 
 /// All octets of a file, without a word on standard error. `None` where there are more than `most`.
-pub(crate) fn read_at_most<R: Files>(
+///
+/// # Errors
+///
+/// What the system says of the file.
+pub fn read_at_most<R: Files>(
     rt: &R,
     alloc: Global,
     path: &str,

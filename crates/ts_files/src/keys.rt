@@ -4,12 +4,10 @@ use crate::fault::TaskFault;
 use crate::files::fault_of;
 use std::alloc::Global;
 use std::fs;
-use std::io::Print;
 use std::os::unix::fs::PermissionsExt;
-use std::random::RandomSource;
 use std::rt::Files;
-use ts_access::{Key, KeysFault, Role, key_line};
-use ts_keyring::{KeyFileFault, Keyring, draw, read_key_file};
+use ts_access::{Key, KeysFault};
+use ts_keyring::{KeyFileFault, Keyring, read_key_file};
 
 /// What is wrong with the lines of a file of keys, said on standard error.
 fn fault_of_keys(rt: &impl Eprint, path: &str, fault: KeysFault) -> TaskFault {
@@ -94,32 +92,5 @@ pub fn key_in<R: Files + Eprint>(
             let _ = eprintln!(rt; "trustd: {path}: holds {count} keys, one is wanted");
             Err(TaskFault::Field)
         }
-    }
-}
-
-/// Octets that nobody else draws.
-fn random_octets(rt: &impl RandomSource) -> Result<[u8; 32], TaskFault> {
-    draw(rt).ok_or(TaskFault::Random)
-}
-
-/// Prints a line of a file of keys: a number and a secret that nobody else draws, for a role.
-///
-/// # Errors
-///
-/// `Random`, `Memory`, `Write`.
-pub fn print_key(
-    rt: &(impl AllocGlobal + RandomSource + Print),
-    role: Role,
-) -> Result<(), TaskFault> {
-    let [a, b, c, d, ..] = random_octets(rt)?;
-    let key = Key {
-        id: u32::from_be_bytes([a, b, c, d]),
-        role,
-        secret: random_octets(rt)?,
-    };
-    let line = key_line(rt.alloc(), &key)?;
-    match println!(rt; "{line}") {
-        Ok(()) => Ok(()),
-        Err(_) => Err(TaskFault::Write),
     }
 }

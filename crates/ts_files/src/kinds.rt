@@ -1,7 +1,7 @@
 //! What a file holds that is of another kind than is wanted.
 
 ghost use Rattle.std.specs.Prelude.{IfOk};
-ghost use Rattle.ts_offline.specs.Others.{IsOther};
+ghost use Rattle.ts_files.specs.Others.{IsOther};
 
 use std::alloc::{AllocError, Global};
 use ts_line::Line;

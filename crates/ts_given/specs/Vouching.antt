@@ -5,8 +5,8 @@ use Rattle.ts_check.specs.Native.{native_accepts}
 use Rattle.ts_crl.specs.Fault.{ListFault}
 use Rattle.ts_crl.specs.List.{CertificateList}
 use Rattle.ts_revoke.specs.Vouched.{doubt_of}
-use Rattle.ts_judge.specs.declared.vouching.CrlDoubt.{CrlDoubt}
-use Rattle.ts_judge.specs.declared.vouching.CrlDoubt.TheVariants.{NoCrl, Against}
+use Rattle.ts_given.specs.declared.vouching.CrlDoubt.{CrlDoubt}
+use Rattle.ts_given.specs.declared.vouching.CrlDoubt.TheVariants.{NoCrl, Against}
 
 -- they are no CRL that a store takes; else the first doubt about it, at a moment, by these
 -- certificates of those who may have signed it (RFC 5280 6.3.3 (f), (g))

@@ -15,8 +15,12 @@ use ts_pem::{PemFault, is_pem, read_certificates, read_crls};
 use ts_shape::CertFault;
 use ts_show::Kind;
 
-/// What a text of blocks holds, or the fault of the file, of which standard error says the line.
-pub(crate) fn values_of(
+/// What the text of a file holds, by blocks of PEM.
+///
+/// # Errors
+///
+/// `Field` where a block is broken, of which standard error says the line; `Memory`.
+pub fn values_of(
     rt: &impl Eprint,
     path: &str,
     read: Result<Vec<Vec<u8>>, PemFault>,

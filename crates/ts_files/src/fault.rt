@@ -1,13 +1,13 @@
 //! Why a task fails.
 
 ghost use Rattle.std.specs.Prelude.{◌≡◌};
-ghost use Rattle.ts_offline.specs.declared.fault.TaskFault.TheVariants as fault;
+ghost use Rattle.ts_files.specs.declared.fault.TaskFault.TheVariants as fault;
 
 use std::alloc::{AllocError, AllocFailed};
 use std::fmt;
 use ts_cli::MakeFault;
 use ts_exchange::{ExchangeFault, StepFault};
-use ts_judge::GivenFault;
+use ts_given::GivenFault;
 use ts_serve::ServeFault;
 use ts_show::fault_name;
 use ts_sig::TableFault;

@@ -4,7 +4,7 @@ ghost use Rattle.std.specs.Prelude.{◌≡◌, map};
 ghost use Rattle.ts_der.specs.Answer.{refusal};
 ghost use Rattle.ts_cert.specs.CertView.{cert_in};
 ghost use Rattle.ts_crl.specs.Table.{crl_of};
-ghost use Rattle.ts_judge.specs.Vouching.{doubt_about};
+ghost use Rattle.ts_given.specs.Vouching.{doubt_about};
 
 use std::fmt;
 use ts_cert::Cert;

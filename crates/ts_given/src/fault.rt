@@ -1,7 +1,7 @@
 //! Why nothing is judged.
 
 ghost use Rattle.std.specs.Prelude.{◌≡◌};
-ghost use Rattle.ts_judge.specs.declared.fault.GivenFault.TheVariants.{Memory};
+ghost use Rattle.ts_given.specs.declared.fault.GivenFault.TheVariants.{Memory};
 
 use std::alloc::{AllocError, AllocFailed};
 use std::fmt;

@@ -1,7 +1,7 @@
 use Rattle.std.proofs.Common.{◌≡◌, ◌+◌, map, take, drop, length}
 use Rattle.ts_cert.specs.CertView.{cert_in, certificate_in}
-use Rattle.ts_judge.specs.Given.{first_certificate, octets_of}
-use Rattle.ts_judge.proofs.reading.certificates_in.Given as goal
+use Rattle.ts_given.specs.Given.{first_certificate, octets_of}
+use Rattle.ts_given.proofs.reading.certificates_in.Given as goal
 
 abbrev pub invariant-loop-i : goal.invariant-loop-i
 invariant-loop-i l = record {
