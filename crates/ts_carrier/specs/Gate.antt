@@ -33,13 +33,10 @@ abbrev pub due : Option WantedCommand → ℕ → Option (List ℕ)
 due None now = None
 due (Some wanted) now = if nat_le wanted.again now then Some wanted.frame.items else None
 
--- a round of it was refused: it is proposed again within 10 to 110 milliseconds
-abbrev pub after_refusal : Option WantedCommand → ℕ → ℕ → Option WantedCommand
-after_refusal None now chance = None
-after_refusal (Some wanted) now chance = Some (record wanted {
-  again = min wanted.again
-      (min (min (now + 10) (2 ^ 64 - 1) + chance % 100) (2 ^ 64 - 1));
-})
+-- it is proposed again at a moment, if it isn't before
+abbrev pub hurried : Option WantedCommand → ℕ → Option WantedCommand
+hurried None at = None
+hurried (Some wanted) at = Some (record wanted { again = min wanted.again at })
 
 -- it is given as much time again
 abbrev pub with_new_time : Option WantedCommand → ℕ → Option WantedCommand

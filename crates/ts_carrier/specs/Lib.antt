@@ -1,3 +1,4 @@
 pub mod Dial
 pub mod Gate
 pub mod Mailbox
+pub mod Rotation

@@ -1,7 +1,7 @@
 //! The command of a client that is under way.
 
 ghost use Rattle.std.specs.Prelude.{◌≡◌, None, Some, option_map};
-ghost use Rattle.ts_carrier.specs.Gate.{after_try, again_after, due, after_refusal, with_new_time};
+ghost use Rattle.ts_carrier.specs.Gate.{after_try, again_after, due, hurried, with_new_time};
 ghost use Rattle.ts_carrier.specs.Gate.{is_held_back, is_submit};
 
 /// For how many milliseconds a command is proposed again, before it is given up.
@@ -10,13 +10,6 @@ pub const LONGEST_WAY: u64 = 10_000;
 /// How many milliseconds pass, and by chance as many more, before a command is proposed again the
 /// first time; each time twice as many.
 const PATIENCE: u64 = 250;
-
-/// How many milliseconds pass at most, and by chance up to [`MORE`] more, before a command is
-/// proposed again whose round was refused.
-const REFUSED: u64 = 10;
-
-/// See [`REFUSED`].
-const MORE: u64 = 100;
 
 /// The kind of a frame that submits a command.
 const SUBMIT: u8 = 0x10;
@@ -89,6 +82,13 @@ impl Gate {
         self.wanted.as_ref()
     }
 
+    /// Until when no command is taken, if none is under way.
+    pub fn rests(&self) -> u64
+        ensures { result ≡ self.now.rests }
+    {
+        self.rests
+    }
+
     /// Whether the frame that begins here has to wait: it submits a command, and one is under way,
     /// or was a short while ago.
     pub fn holds_back(&self, held: &[u8], now: u64) -> bool
@@ -125,21 +125,19 @@ impl Gate {
         }
     }
 
-    /// A round of the command was refused, since another node has begun one: it is proposed again
-    /// soon, by chance not at the moment when the other node does so.
-    pub fn hurry(&mut self, now: u64, chance: u64)
-        ensures wanted { self.new.wanted ≡ after_refusal self.old.wanted now chance }
+    /// The command is proposed again at this moment, if it isn't before.
+    pub fn hurry(&mut self, at: u64)
+        ensures wanted { self.new.wanted ≡ hurried self.old.wanted at }
         ensures rests { self.new.rests ≡ self.old.rests }
     {
         let Some(wanted) = self.wanted.take() else {
             return;
         };
-        let soon = now.saturating_add(REFUSED).saturating_add(chance % MORE);
         self.wanted = Some(WantedCommand {
             frame: wanted.frame,
             since: wanted.since,
             tries: wanted.tries,
-            again: wanted.again.min(soon),
+            again: wanted.again.min(at),
         });
     }
 

@@ -1,6 +1,6 @@
 //! What a node's carrier keeps, as values: the frames that wait to be sent to a peer, when to
-//! connect to it, and the command of a client that is under way. No socket is in it; moments, in
-//! milliseconds, and chances are arguments.
+//! connect to it, the command of a client that is under way, and the order in which nodes propose.
+//! No socket is in it; moments, in milliseconds, and chances are arguments.
 //!
 //! ```text
 //! let mut mailbox = Mailbox::new(alloc);
@@ -30,6 +30,10 @@
 //! - [`Gate`]: `holds_back`: exactly where a command is under way, or was a short while ago, and
 //!   a whole Submit begins here; `due`, `tried`, `hurry`, `renew`: when the command is proposed
 //!   again, and that it is given up ten seconds after it was submitted or renewed (`specs/Gate`).
+//! - [`Rotation`]: `turn_at`: at each position another node is the first, and each further one waits
+//!   for as long as a position takes, so that nodes that all have commands choose one after
+//!   another; `retry_at`: when a command whose round was refused is proposed again, if nothing is
+//!   chosen meanwhile; `learn`: how long a position takes (`specs/Rotation`).
 //!
 //! # Not promised
 //!
@@ -40,7 +44,9 @@
 mod dial;
 mod gate;
 mod mailbox;
+mod rotation;
 
 pub use dial::{Dial, FIRST_DELAY, LONGEST_DELAY, Phase};
 pub use gate::{Gate, LONGEST_WAY, WantedCommand};
 pub use mailbox::{MAX_FRAMES, Mailbox};
+pub use rotation::Rotation;

@@ -156,7 +156,7 @@ impl Edge {
             events,
             listener,
             doors: Vec::new(alloc),
-            carrier: Carrier::new(alloc, group.carries, own.nodes == 1, group.tells, seed),
+            carrier: Carrier::new(alloc, own, group.carries, group.tells, seed),
             web: None,
             accepts: Accepts::AtEvent,
             counts: Counts::new(),
@@ -203,17 +203,28 @@ impl Edge {
         }
     }
 
+    /// The milliseconds since the start.
+    fn now<R: Clock>(&self, rt: &R) -> Result<u64, LoopFault> {
+        let Ok(elapsed) = self.start.elapsed(rt) else {
+            return Err(LoopFault::Clock);
+        };
+        Ok(u64::try_from(elapsed.as_millis()).unwrap_or(u64::MAX))
+    }
+
     /// Waits for events, and marks the doors that have one. Whether the listener has, and the
     /// milliseconds since the start.
-    fn wait<R: Clock>(&mut self, rt: &R, wait: u64) -> Result<(bool, u64), LoopFault> {
+    fn wait<R: Clock>(&mut self, rt: &R) -> Result<(bool, u64), LoopFault> {
+        let begun = self.now(rt)?;
+        let wait = if self.goes_on() {
+            0
+        } else {
+            self.carrier.patience(begun, ROUND)
+        };
         let longest = Some(Duration::from_millis(wait));
         if self.poll.poll(&mut self.events, longest).is_err() {
             return Err(LoopFault::Poll);
         }
-        let Ok(elapsed) = self.start.elapsed(rt) else {
-            return Err(LoopFault::Clock);
-        };
-        let now = u64::try_from(elapsed.as_millis()).unwrap_or(u64::MAX);
+        let now = self.now(rt)?;
         let doors = &mut self.doors;
         Ok((
             mark(doors, &mut self.carrier, &mut self.web, &self.events),
@@ -431,7 +442,7 @@ impl Edge {
         ensures reached { HasReached S.turn S.keeps service.old table.old service.new table.new }
         ensures ready { S.is_ready service.new }
     {
-        let (event, now) = self.wait(rt, if self.goes_on() { 0 } else { ROUND })?;
+        let (event, now) = self.wait(rt)?;
         access.refresh(rt, self.alloc, now);
         self.accept(rt, table, access, event, now);
         self.note(service, access, now);

@@ -16,7 +16,7 @@ use std::alloc::Global;
 use std::net::{Net, SocketAddr};
 use std::random::RandomSource;
 use ts_access::Key;
-use ts_carrier::Gate;
+use ts_carrier::{Gate, Rotation};
 use ts_links::{Connections, Service};
 use ts_node::Identity;
 use ts_sockets::PIECE;
@@ -50,11 +50,8 @@ const BUSY: u8 = 0x03;
 /// How often in a round a node is handed the messages to itself that it made last.
 const STEPS: u32 = 64;
 
-/// For how many milliseconds another node that was seen to propose is let pass.
+/// For how many milliseconds nodes have turns after another one was seen to propose.
 const RIVALRY: u64 = 1_000;
-
-/// The most milliseconds that a position is taken to need.
-const LONGEST_PACE: u64 = 500;
 
 /// How many milliseconds pass until a node that is behind is told again to catch up, if it has not
 /// learned anything.
@@ -81,8 +78,8 @@ pub struct Carrier {
     senders: Senders,
     /// When it learned one last, or was told to catch up.
     grown: u64,
-    /// How many milliseconds the last position took.
-    pace: u64,
+    /// In which order nodes propose, where several do.
+    rotation: Rotation,
     /// When another node was last seen to propose.
     rivals: u64,
     /// The slot of the client whose command was taken last.
@@ -95,12 +92,12 @@ pub struct Carrier {
 }
 
 impl Carrier {
-    /// A carrier without peers, of a node that is alone in its group or not. `seed` is any number.
-    pub fn new(alloc: Global, carries: bool, alone: bool, tells: bool, seed: u64) -> Carrier {
+    /// A carrier of a node, without peers. `seed` is any number.
+    pub fn new(alloc: Global, own: Identity, carries: bool, tells: bool, seed: u64) -> Carrier {
         Carrier {
             alloc,
             carries,
-            alone,
+            alone: own.nodes == 1,
             tells,
             lines: Vec::new(alloc),
             gate: Gate::new(),
@@ -108,7 +105,11 @@ impl Carrier {
             told: None,
             senders: Senders::new(alloc),
             grown: 0,
-            pace: 0,
+            rotation: Rotation {
+                own: own.node,
+                nodes: own.nodes,
+                pace: 1,
+            },
             rivals: 0,
             last: 0,
             taken: 0,
@@ -187,10 +188,16 @@ impl Carrier {
         }
     }
 
-    /// A round of the command that is under way was refused.
+    /// A round of the command that is under way was refused: another node has begun one, whose
+    /// command is likely to be chosen first.
     fn hurry(&mut self, now: u64) {
+        let Some(wanted) = self.gate.wanted() else {
+            return;
+        };
+        let tries = wanted.tries;
         let chance = self.chances.next_u64();
-        self.gate.hurry(now, chance);
+        let at = self.rotation.retry_at(self.prefix, now, tries, chance);
+        self.gate.hurry(at);
     }
 
     /// Puts a message on the line to its node. Without one it is lost.
@@ -289,10 +296,14 @@ impl Carrier {
         };
         if let Some(prefix) = prefix_of(self.alloc, &answer) {
             if prefix > self.prefix {
-                self.pace = now.saturating_sub(self.grown).min(LONGEST_PACE);
+                self.rotation.learn(now.saturating_sub(self.grown));
                 self.prefix = prefix;
                 self.grown = now;
                 self.gate.renew(now);
+                if self.has_rivals(now) {
+                    let at = self.rotation.turn_at(prefix, now);
+                    self.gate.hurry(at);
+                }
             }
         }
     }
@@ -330,13 +341,19 @@ impl Carrier {
         self.more = true;
     }
 
-    /// Until when no command is taken after one that was chosen: where another node proposes too,
-    /// it is let pass, for as long as two positions take.
+    /// Whether another node was seen to propose a short while ago, so that nodes have turns.
+    fn has_rivals(&self, now: u64) -> bool {
+        now.saturating_sub(self.rivals) < RIVALRY
+    }
+
+    /// Until when no command is taken after one that was chosen: where nodes have turns, until this
+    /// one's.
     fn rest_until(&self, now: u64) -> u64 {
-        if now.saturating_sub(self.rivals) >= RIVALRY {
-            return now;
+        if self.has_rivals(now) {
+            self.rotation.turn_at(self.prefix, now)
+        } else {
+            now
         }
-        now.saturating_add(self.pace.saturating_mul(2))
     }
 
     /// Looks after the command that is under way: it may be chosen, or its round may be lost.
@@ -406,6 +423,17 @@ impl Carrier {
     /// Whether there is more to carry at once.
     pub fn has_more(&self) -> bool {
         self.more
+    }
+
+    /// How many milliseconds pass, and at most `longest`, until the command that is under way is
+    /// proposed again, or until the next one is taken.
+    pub fn patience(&self, now: u64, longest: u64) -> u64 {
+        let at = match self.gate.wanted() {
+            Some(wanted) => wanted.again,
+            None if now < self.gate.rests() => self.gate.rests(),
+            None => return longest,
+        };
+        at.saturating_sub(now).min(longest)
     }
 
     /// Tells standard error of commands that were chosen since it was told last: one by one, or how
