@@ -7,9 +7,8 @@ use Rattle.ts_script.specs.declared.script.TheConstants.{LINE_FEED}
 use Rattle.ts_lab.specs.declared.scanner.Scanner.{Scanner}
 use Rattle.ts_script.specs.Pieces.{onto_first, all_onto_first}
 use Rattle.ts_script.specs.Known.{Entry, known_in}
-use Rattle.ts_script.specs.CertLine.{RefusesCert}
 use Rattle.ts_script.specs.CheckLine.{RefusesCheck}
-use Rattle.ts_script.specs.CrlLine.{RefusesCrl}
+use Rattle.ts_script.specs.Objects.{a_certificate, a_crl, Refuses as RefusesObject}
 use Rattle.ts_lab.specs.Says.{Says, Refuses, RefusesAs, Kind, skipped, cert_kind, crl_kind, check_kind, node_kind, unknown_kind, kind_of, RefusesNodes}
 use Rattle.ts_script.specs.declared.script.LineFault.{LineFault}
 use Rattle.ts_lab.specs.Script.{lines_of, Run}
@@ -87,8 +86,8 @@ scans_begun n known line x other before rest whole wrong e =
 -- any line may be refused when out of memory
 forgotten : (kind : Kind) (known : List Entry) (line : List ℕ) (fault : LineFault) → fault ≡ Memory → RefusesAs kind known line fault
 forgotten skipped known line fault is = is
-forgotten cert_kind known line fault is = subst (RefusesCert known line) (sym is) tt
-forgotten crl_kind known line fault is = subst (RefusesCrl known line) (sym is) tt
+forgotten cert_kind known line fault is = subst (RefusesObject a_certificate known line) (sym is) tt
+forgotten crl_kind known line fault is = subst (RefusesObject a_crl known line) (sym is) tt
 forgotten check_kind known line fault is = subst RefusesCheck (sym is) tt
 forgotten node_kind known line fault is = subst RefusesNodes (sym is) tt
 forgotten unknown_kind known line fault is = inr is

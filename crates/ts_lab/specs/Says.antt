@@ -11,9 +11,8 @@ use Rattle.ts_script.specs.declared.script.LineFault.TheVariants.{Message, Memor
 use Rattle.ts_script.specs.declared.script.TheConstants.{COMMENT}
 use Rattle.ts_script.specs.Words.{words_of, first_of}
 use Rattle.ts_script.specs.Known.{Entry}
-use Rattle.ts_script.specs.CertLine.{IsCertSaid, RefusesCert}
 use Rattle.ts_script.specs.CheckLine.{IsVerdictText, RefusesCheck}
-use Rattle.ts_script.specs.CrlLine.{IsCrlSaid, RefusesCrl}
+use Rattle.ts_script.specs.Objects.{a_certificate, a_crl, IsSaid, Refuses as RefusesObject}
 
 -- what a line is by its first word
 pub data Kind : Type 0 where
@@ -69,8 +68,8 @@ RefusesNodes Memory = Unit {0}
 -- a line of a kind is answered with the text, and what is known after it is this
 abbrev pub SaysAs : Kind → List Entry → List ℕ → List ℕ → List Entry → Type 0
 SaysAs skipped known line text after = (text ≡ []) × (after ≡ known)
-SaysAs cert_kind known line text after = IsCertSaid known line text after
-SaysAs crl_kind known line text after = IsCrlSaid known line text after
+SaysAs cert_kind known line text after = IsSaid a_certificate known line text after
+SaysAs crl_kind known line text after = IsSaid a_crl known line text after
 SaysAs check_kind known line text after = IsVerdictText text × (after ≡ known)
 SaysAs node_kind known line text after = after ≡ known
 SaysAs unknown_kind known line text after = ⊥
@@ -79,8 +78,8 @@ SaysAs unknown_kind known line text after = ⊥
 -- nothing else
 abbrev pub RefusesAs : Kind → List Entry → List ℕ → LineFault → Type 0
 RefusesAs skipped known line fault = fault ≡ Memory
-RefusesAs cert_kind known line fault = RefusesCert known line fault
-RefusesAs crl_kind known line fault = RefusesCrl known line fault
+RefusesAs cert_kind known line fault = RefusesObject a_certificate known line fault
+RefusesAs crl_kind known line fault = RefusesObject a_crl known line fault
 RefusesAs check_kind known line fault = RefusesCheck fault
 RefusesAs node_kind known line fault = RefusesNodes fault
 RefusesAs unknown_kind known line fault = (fault ≡ Unknown) ⊎ (fault ≡ Memory)

@@ -1,23 +1,15 @@
 -- What answers a line, or refuses it.
-use Rattle.std.proofs.Common.{◌≡◌, ◌≢◌, ◌∙◌, sym, ap, subst, ℕ, List, length, map, Option, None, Some, is_some, option_map, MatchOption, ok_or, true, false, Result, Ok, Err, is_ok, ◌<◌, arith}
-use Rattle.std.specs.declared.alloc.Global.{Global}
-use Rattle.std.specs.declared.vec.Vec.{Vec}
-use Rattle.ts_shape.specs.declared.fault.CertFault.{CertFault}
+use Rattle.std.proofs.Common.{◌≡◌, ◌≢◌, ◌∙◌, sym, ap, subst, ℕ, List, map, Option, None, Some, is_some, option_map, MatchOption, ok_or, true, false, Ok, Err}
 use Rattle.ts_time.specs.Text.{IsGeneral}
 use Rattle.ts_make.specs.declared.description.CertText.{CertText}
-use Rattle.ts_make.specs.declared.fault.MakeFault.{MakeFault}
-use Rattle.ts_make.specs.declared.fault.MakeFault.TheVariants.{TooLong, Unreadable}
-use Rattle.ts_cert.specs.Reading.{certificate_of}
-use Rattle.ts_make.specs.Making.{AnswersMade}
 use Rattle.ts_script.specs.declared.cert_line.CertWords.{CertWords}
 use Rattle.ts_script.specs.declared.script.LineFault.{LineFault}
-use Rattle.ts_script.specs.declared.script.LineFault.TheVariants.{Unknown, Form, Name, Limit, Message, Memory}
+use Rattle.ts_script.specs.declared.script.LineFault.TheVariants.{Form}
 use Rattle.ts_literal.specs.Literals.{IsNumber}
-use Rattle.ts_script.specs.Words.{IsName, IsHex, IsDn}
+use Rattle.ts_script.specs.Words.{IsHex, IsDn}
 use Rattle.ts_script.specs.Parts.{part_in}
 use Rattle.ts_script.specs.ExtensionWords.{AreParts}
-use Rattle.ts_script.specs.Known.{Entry}
-use Rattle.ts_script.specs.CertLine.{cert_line, extension_words, IsMade, IsSaid, IsCertLine, IsUnreadable, RefusesWords, RefusesCert}
+use Rattle.ts_script.specs.CertLine.{cert_line, extension_words, IsMade, IsSaid}
 
 -- two lists of words in the places of a `cert` line say the same
 pub said_again : (v w : CertWords) (text : CertText) → cert_line v ≡ cert_line w → IsSaid v text → IsSaid w text
@@ -46,16 +38,6 @@ said_again v w text same said =
 pub made_again : (v w : CertWords) (octets : List ℕ) → cert_line v ≡ cert_line w → IsMade v octets → IsMade w octets
 made_again v w octets same is = (is.0, said_again v w is.0 same is.1, is.2, is.3, is.4, is.5, is.6)
 
--- a line is refused as its words are
-pub words_refused : (known : List Entry) (line : List ℕ) (c : CertWords) (fault : LineFault) → IsCertLine line c
-    → (IsName c.name.now → RefusesWords known c fault) → RefusesCert known line fault
-words_refused known line c Form is refused = λ d stands octets made. refused is.1 octets (made_again d c octets (sym stands.0 ∙ is.0) made)
-words_refused known line c Name is refused = (c, is, refused is.1)
-words_refused known line c Limit is refused = (c, is, refused is.1)
-words_refused known line c Memory is refused = tt
-words_refused known line c Message is refused = refused is.1
-words_refused known line c Unknown is refused = refused is.1
-
 -- a reader that answered nothing is refused for its form
 pub form_of_none : {T : Type 0} (P : Type 0) (Q : T → Type 0) (o : Option T) (fault : LineFault) → Err fault ≡ ok_or o Form → MatchOption o P Q → (fault ≡ Form) × P
 form_of_none P Q None fault is h = (cc is, h)
@@ -78,28 +60,3 @@ found_none f (Some x) q is same = absurd cc
 pub ok_some : {T : Type 0} (o : Option T) (x : T) → Ok x ≡ ok_or o Form → o ≡ Some x
 ok_some None x is = absurd cc
 ok_some (Some y) x is = let same : y ≡ x = cc is in ap Some same
-
--- what was made is too long, can't be read, or is returned
-pub made_long : (r : Result (Vec ℕ Global) MakeFault) (fault : MakeFault) (octets : List ℕ) → AnswersMade r octets → r ≡ Err fault → fault ≡ TooLong → 65536 < length octets
-made_long r fault octets answers is long =
-    let P : Result (Vec ℕ Global) MakeFault → Type 0 = λ x. AnswersMade x octets in
-    subst P (is ∙ ap Err long) answers
-
-pub made_unreadable : (r : Result (Vec ℕ Global) MakeFault) (fault : MakeFault) (why : CertFault) (octets : List ℕ) → AnswersMade r octets → r ≡ Err fault
-    → fault ≡ Unreadable why → IsUnreadable octets
-made_unreadable r fault why octets answers is unreadable =
-    let P : Result (Vec ℕ Global) MakeFault → Type 0 = λ x. AnswersMade x octets in
-    let found = subst P (is ∙ ap Err unreadable) answers in
-    (found.0, ap is_ok found.1)
-
-pub long_stands : (octets : List ℕ) → 65536 < length octets → ¬ (IsUnreadable octets)
-long_stands octets long is = let short = is.0 in omega arith
-
-pub read_stands : (octets : List ℕ) → is_ok (certificate_of octets) ≡ true → ¬ (IsUnreadable octets)
-read_stands octets reads is = cc (sym reads ∙ is.1)
-
-pub made_stands : (r : Result (Vec ℕ Global) MakeFault) (v : Vec ℕ Global) (octets : List ℕ) → AnswersMade r octets → r ≡ Ok v → ¬ (IsUnreadable octets)
-made_stands r v octets answers is =
-    let P : Result (Vec ℕ Global) MakeFault → Type 0 = λ x. AnswersMade x octets in
-    let found = subst P is answers in
-    read_stands octets found.2

@@ -7,6 +7,7 @@ pub mod CrlReading
 pub mod SameParts
 pub mod OneCertificate
 pub mod OneList
+pub mod Objects
 pub mod OneParts
 pub mod Lookup
 pub mod Encoding

@@ -8,4 +8,5 @@ pub mod Wrong
 pub mod CertLine
 pub mod CheckLine
 pub mod CrlLine
+pub mod Objects
 pub mod inside

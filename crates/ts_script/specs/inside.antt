@@ -1,2 +1,3 @@
 pub mod CrlParts
+pub mod Making
 pub mod OwnedParts

@@ -9,8 +9,9 @@
 //! let text = answer_check(alloc, &known, line)?;
 //! ```
 //!
-//! - [`answer_cert`], [`answer_crl`]: what a line prints and makes known, by `specs/CertLine` and
-//!   `specs/CrlLine`; or why it is refused, and nothing is known then that was not.
+//! - [`answer_cert`], [`answer_crl`]: what a line prints and makes known, or why it is refused
+//!   (`specs/Objects`), by the words of `specs/CertLine` and `specs/CrlLine`; nothing is known after
+//!   a refusal that was not.
 //! - [`answer_check`]: the text of a verdict, or why the line is refused.
 //! - [`Symbols::find`], [`Symbols::find_cert`], [`Symbols::keep`]: what a name stands for is that
 //!   of its first entry, and a new one is last.
@@ -32,6 +33,7 @@ mod crl_words;
 mod extension_words;
 mod keyword;
 pub mod laws;
+mod making;
 mod options;
 mod script;
 mod symbols;

@@ -1,14 +1,15 @@
 -- A line is refused as its words are.
-use Rattle.std.proofs.lemmas.Result.{IfErr-weaker}
+use Rattle.std.proofs.lemmas.Result.{err_from_is_err_and}
+use Rattle.ts_script.specs.declared.crl_line.CrlWords.{CrlWords}
 use Rattle.ts_script.specs.Known.{known_in}
-use Rattle.ts_script.specs.Words.{IsName}
-use Rattle.ts_script.specs.CrlLine.{RefusesCrlWords, RefusesCrl}
-use Rattle.ts_script.proofs.OneList.{crl_words_refused}
+use Rattle.ts_script.specs.Objects.{a_crl, IsLine}
+use Rattle.ts_script.proofs.Answering.{some_of_ok}
+use Rattle.ts_script.proofs.Objects.{words_refused}
 use Rattle.ts_script.proofs.crl_line.answer_crl.Goals as goal
 
-pub returns-clause-fault : goal.returns-clause-fault
-returns-clause-fault c =
-    let known = known_in c.args.known.now in
-    let words = c.in-Some.words in
-    IfErr-weaker c.keep.result (λ fault. IsName words.name.now → RefusesCrlWords known words fault) (RefusesCrl known c.args.line.now)
-    (λ fault h. crl_words_refused known c.args.line.now words fault c.in-Some.ensures h) c.keep.ensures.fault
+pub returns-in_err-octets-clause-fault : goal.returns-in_err-octets-clause-fault
+returns-in_err-octets-clause-fault c =
+    let line = c.args.line.now in
+    let p = err_from_is_err_and c.from_residual-in_err-octets.result c.from_residual-in_err-octets.ensures.1 in
+    let is = some_of_ok ((w : CrlWords) → ¬ (IsLine a_crl line w)) (IsLine a_crl line) c.of.result c.in_ok-words.words c.in_ok-words.ensures.value c.of.ensures in
+    rw (p.1, p.2) (words_refused a_crl (known_in c.args.known.now) line c.in_ok-words.words c.in_err-octets.field-0.0 is c.in_err-octets.ensures)
