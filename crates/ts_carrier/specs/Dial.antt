@@ -1,13 +1,10 @@
 -- When to connect to a peer. Moments and delays are milliseconds.
-use Rattle.std.specs.Prelude.{ℕ, Bool, false, ◌+◌, ◌*◌, ◌-◌, ◌/◌, ◌%◌, ◌^◌, min, nat_le}
+use Rattle.std.specs.Prelude.{ℕ, Bool, false, ◌+◌, ◌*◌, ◌-◌, ◌/◌, ◌%◌, min, nat_le}
 use Rattle.std.specs.Prelude.{if◌then◌else◌}
+use Rattle.ts_carrier.specs.Moment.{later}
 use Rattle.ts_carrier.specs.declared.dial.Dial.{Dial}
 use Rattle.ts_carrier.specs.declared.dial.Phase.{Phase}
 use Rattle.ts_carrier.specs.declared.dial.Phase.TheVariants as phases
-
--- the greatest moment
-abbrev pub last : ℕ
-last = 2 ^ 64 - 1
 
 -- it may be tried at once
 abbrev pub new_dial : Dial
@@ -30,6 +27,11 @@ abbrev pub after_loss : Dial → ℕ → ℕ → Dial
 after_loss dial now chance =
     let delay = delay_after dial.phase dial.delay now in
     record {
-      phase = phases.Down (min (min (now + delay) last + chance % (delay / 2 + 1)) last);
-      delay = min (min (delay * 2) last) 5000;
+      phase = phases.Down (later (later now delay) (chance % (delay / 2 + 1)));
+      delay = min (delay * 2) 5000;
     }
+
+-- A peer that was heard last at this moment is silent for too long: for five seconds, and a second
+-- more for each 256 KiB that it was sent since, as it answers a message once that is whole.
+abbrev pub is_silent : ℕ → ℕ → ℕ → Bool
+is_silent heard sent now = nat_le (5000 + sent / 262144 * 1000) (now - heard)

@@ -1,4 +1,5 @@
 pub mod Dial
 pub mod Gate
 pub mod Mailbox
+pub mod Moment
 pub mod Rotation

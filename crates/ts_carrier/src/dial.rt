@@ -1,7 +1,7 @@
 //! When to connect to a peer.
 
 ghost use Rattle.std.specs.Prelude.{◌≡◌};
-ghost use Rattle.ts_carrier.specs.Dial.{delay_after, is_due, after_loss, new_dial};
+ghost use Rattle.ts_carrier.specs.Dial.{after_loss, delay_after, is_due, is_silent, new_dial};
 ghost use Rattle.ts_carrier.specs.declared.dial.Phase.TheVariants as phases;
 
 /// The delay after a first failure, in milliseconds.
@@ -9,6 +9,12 @@ pub const FIRST_DELAY: u64 = 50;
 
 /// The longest delay, in milliseconds.
 pub const LONGEST_DELAY: u64 = 5_000;
+
+/// How many milliseconds a peer may take to answer.
+pub const SILENCE: u64 = 5_000;
+
+/// For how many octets that it is sent it has a second more.
+const SECOND: u64 = 262_144;
 
 /// How many milliseconds a connection lasts at least for the delay to begin anew.
 const LASTING: u64 = 1_000;
@@ -40,6 +46,14 @@ fn delay_after(dial: Dial, now: u64) -> u64
         Phase::Up { since } if now.saturating_sub(since) >= LASTING => FIRST_DELAY,
         _ => dial.delay,
     }
+}
+
+/// Whether a peer is silent for too long that was heard last at this moment, and was sent so many
+/// octets since.
+pub fn is_silent(heard: u64, sent: u64, now: u64) -> bool
+    ensures { result ≡ is_silent heard sent now }
+{
+    now.saturating_sub(heard) >= SILENCE + sent / SECOND * 1_000
 }
 
 impl Dial {

@@ -1,8 +1,12 @@
-//! The command of a client that is under way.
+//! The command of a client that is under way, and when it is proposed.
 
-ghost use Rattle.std.specs.Prelude.{◌≡◌, None, Some, option_map};
-ghost use Rattle.ts_carrier.specs.Gate.{after_try, again_after, due, hurried, with_new_time};
-ghost use Rattle.ts_carrier.specs.Gate.{is_held_back, is_submit};
+ghost use Rattle.std.specs.Prelude.{◌≡◌, Some, OnOk, OnErr, option_map};
+ghost use Rattle.ts_carrier.specs.Gate.{IsNew, Sees, after_end, after_growth, after_refusal};
+ghost use Rattle.ts_carrier.specs.Gate.{after_try, again_after, due, is_held_back, is_submit};
+ghost use Rattle.ts_carrier.specs.Gate.{new_command, next_turn, renewed, time_to_wait};
+
+use crate::rotation::Rotation;
+use std::alloc::{AllocError, Global};
 
 /// For how many milliseconds a command is proposed again, before it is given up.
 pub const LONGEST_WAY: u64 = 10_000;
@@ -27,13 +31,18 @@ pub struct WantedCommand {
     pub again: u64,
 }
 
-/// The command that is under way, if one is. While it is, and for a while after it, no other is
-/// taken.
+/// The command that is under way, if one is: while it is, and until the node's turn, no other is
+/// taken. What the node was seen to learn and other nodes to do says when it is proposed.
 #[derive(Drop)]
 pub struct Gate {
     wanted: Option<WantedCommand>,
     /// Until when none is taken.
     rests: u64,
+    rotation: Rotation,
+    /// How many commands the node knows.
+    prefix: u32,
+    /// When it learned one last.
+    grown: u64,
 }
 
 /// Whether a whole frame that submits a command begins here.
@@ -64,14 +73,16 @@ fn again_after(tries: u32, now: u64, chance: u64) -> u64
 }
 
 impl Gate {
-    /// No command is under way.
-    pub fn new() -> Gate
-        ensures wanted { result.wanted ≡ None }
-        ensures rests { result.rests ≡ 0 }
+    /// Of the node `own` in a group of `nodes`: no command is under way, and it knows none.
+    pub fn new(alloc: Global, own: u8, nodes: u8) -> Gate
+        ensures { IsNew own nodes result }
     {
         Gate {
             wanted: None,
             rests: 0,
+            rotation: Rotation::new(alloc, own, nodes),
+            prefix: 0,
+            grown: 0,
         }
     }
 
@@ -82,30 +93,31 @@ impl Gate {
         self.wanted.as_ref()
     }
 
-    /// Until when no command is taken, if none is under way.
-    pub fn rests(&self) -> u64
-        ensures { result ≡ self.now.rests }
+    /// How many commands the node knows.
+    pub fn prefix(&self) -> u32
+        ensures { result ≡ self.now.prefix }
     {
-        self.rests
+        self.prefix
+    }
+
+    /// When the node learned a command last.
+    pub fn grown(&self) -> u64
+        ensures { result ≡ self.now.grown }
+    {
+        self.grown
     }
 
     /// Whether the frame that begins here has to wait: it submits a command, and one is under way,
-    /// or was a short while ago.
+    /// or it is not the node's turn yet. At a node that is alone in its group none waits.
     pub fn holds_back(&self, held: &[u8], now: u64) -> bool
         ensures { result ≡ is_held_back self.now held.now now }
     {
-        (self.wanted.is_some() || now < self.rests) && is_submit(held)
+        self.rotation.is_shared() && (self.wanted.is_some() || now < self.rests) && is_submit(held)
     }
 
     /// A command was submitted by this frame.
     pub fn begin(&mut self, frame: Vec<u8>, now: u64, chance: u64)
-        ensures wanted { self.new.wanted ≡ Some (record {
-          frame = frame;
-          since = now;
-          tries = 1;
-          again = again_after 1 now chance;
-        }) }
-        ensures rests { self.new.rests ≡ self.old.rests }
+        ensures { self.new ≡ record self.old { wanted = Some (new_command frame now chance) } }
     {
         self.wanted = Some(WantedCommand {
             frame,
@@ -125,26 +137,9 @@ impl Gate {
         }
     }
 
-    /// The command is proposed again at this moment, if it isn't before.
-    pub fn hurry(&mut self, at: u64)
-        ensures wanted { self.new.wanted ≡ hurried self.old.wanted at }
-        ensures rests { self.new.rests ≡ self.old.rests }
-    {
-        let Some(wanted) = self.wanted.take() else {
-            return;
-        };
-        self.wanted = Some(WantedCommand {
-            frame: wanted.frame,
-            since: wanted.since,
-            tries: wanted.tries,
-            again: wanted.again.min(at),
-        });
-    }
-
     /// The command was proposed again: it is given more time, or given up after [`LONGEST_WAY`].
     pub fn tried(&mut self, now: u64, chance: u64)
-        ensures wanted { self.new.wanted ≡ after_try self.old.wanted now chance }
-        ensures rests { self.new.rests ≡ self.old.rests }
+        ensures { self.new ≡ record self.old { wanted = after_try self.old.wanted now chance } }
     {
         let Some(wanted) = self.wanted.take() else {
             return;
@@ -161,29 +156,94 @@ impl Gate {
         });
     }
 
-    /// Other commands are chosen meanwhile, so that a majority runs: the command is given as much
-    /// time again.
-    pub fn renew(&mut self, now: u64)
-        ensures wanted { self.new.wanted ≡ with_new_time self.old.wanted now }
-        ensures rests { self.new.rests ≡ self.old.rests }
+    /// Another node was seen to propose.
+    ///
+    /// # Errors
+    ///
+    /// Memory that is refused. Nothing changes then.
+    pub fn see_rival(&mut self, alloc: Global, node: u8, now: u64) -> Result<(), AllocError>
+        ensures seen { OnOk result (Sees node now self.old self.new) }
+        ensures unchanged { OnErr result (self.new ≡ self.old) }
+    {
+        self.rotation.see(alloc, node, now)
+    }
+
+    /// A round of the command was refused: another node has begun one, whose command is likely to
+    /// be chosen first.
+    pub fn refuse(&mut self, now: u64, chance: u64)
+        ensures { self.new
+            ≡ record self.old { wanted = after_refusal self.old self.old.wanted now chance } }
     {
         let Some(wanted) = self.wanted.take() else {
             return;
         };
+        let retry = self
+            .rotation
+            .retry_at(self.prefix, now, wanted.tries, chance);
+        self.wanted = Some(WantedCommand {
+            frame: wanted.frame,
+            since: wanted.since,
+            tries: wanted.tries,
+            again: wanted.again.min(retry),
+        });
+    }
+
+    /// When it is the node's turn.
+    fn next_turn(&self, now: u64) -> u64
+        ensures { result ≡ next_turn self.now now }
+    {
+        self.rotation.turn_at(self.prefix, now)
+    }
+
+    /// Gives the command as much time again, as others are chosen meanwhile, so that a majority
+    /// runs. It is proposed at the node's turn.
+    fn renew(&mut self, now: u64)
+        ensures { self.new
+            ≡ record self.old { wanted = renewed self.old self.old.wanted now } }
+    {
+        let Some(wanted) = self.wanted.take() else {
+            return;
+        };
+        let turn = self.next_turn(now);
         self.wanted = Some(WantedCommand {
             frame: wanted.frame,
             since: now,
             tries: wanted.tries,
-            again: wanted.again,
+            again: wanted.again.min(turn),
         });
     }
 
-    /// No command is under way any more, and none is taken before this moment.
-    pub fn end(&mut self, until: u64)
-        ensures wanted { self.new.wanted ≡ None }
-        ensures rests { self.new.rests ≡ until }
+    /// The node knows so many commands.
+    pub fn learn(&mut self, prefix: u32, now: u64)
+        ensures { self.new ≡ after_growth self.old prefix now }
     {
+        if prefix <= self.prefix {
+            return;
+        }
+        self.rotation.learn(now.saturating_sub(self.grown));
+        self.prefix = prefix;
+        self.grown = now;
+        self.renew(now);
+    }
+
+    /// No command is under way any more. The next one is taken at the node's turn.
+    pub fn end(&mut self, now: u64)
+        ensures { self.new ≡ after_end self.old now }
+    {
+        self.rests = self.next_turn(now);
         self.wanted = None;
-        self.rests = until;
+    }
+
+    /// How many milliseconds pass, and at most `longest`, until the command is proposed again, or
+    /// until the next one is taken.
+    pub fn patience(&self, now: u64, longest: u64) -> u64
+        ensures { result ≡ time_to_wait self.now self.now.wanted now longest }
+    {
+        let at = match &self.wanted {
+            Some(wanted) => wanted.again,
+            None if now < self.rests => self.rests,
+            None => return longest,
+        };
+        at.saturating_sub(now).min(longest)
     }
 }

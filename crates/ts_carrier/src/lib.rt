@@ -1,6 +1,6 @@
 //! What a node's carrier keeps, as values: the frames that wait to be sent to a peer, when to
-//! connect to it, the command of a client that is under way, and the order in which nodes propose.
-//! No socket is in it; moments, in milliseconds, and chances are arguments.
+//! connect to it, and the command of a client that is under way: when it is proposed, and when the
+//! next one is taken. No socket is in it; moments, in milliseconds, and chances are arguments.
 //!
 //! ```text
 //! let mut mailbox = Mailbox::new(alloc);
@@ -13,8 +13,12 @@
 //! if dial.is_due(now) { dial.begin(now); }  // connect
 //! dial.reach(now);                          // or dial.lose(now, chance): wait longer each time
 //!
-//! let mut gate = Gate::new();
+//! let mut gate = Gate::new(alloc, own, nodes);
 //! if !gate.holds_back(held, now) { .. }     // a Submit waits while another one is under way
+//! gate.see_rival(alloc, node, now)?;        // another node proposes: it has its turns from now on
+//! gate.refuse(now, chance);                 // a round of the command was refused: later again
+//! gate.learn(prefix, now);                  // the node knows so many commands
+//! gate.end(now);                            // the command is chosen: the next one, in its turn
 //! ```
 //!
 //! What is proved:
@@ -26,19 +30,20 @@
 //!   frames wait on (`specs/Mailbox`).
 //! - [`Dial`]: each call leaves the state of `specs/Dial`: the next try is after the delay and at
 //!   most half of it more; the delay is 50 ms, doubled at each failure up to 5 s, and 50 ms again
-//!   after a connection that lasted a second.
-//! - [`Gate`]: `holds_back`: exactly where a command is under way, or was a short while ago, and
-//!   a whole Submit begins here; `due`, `tried`, `hurry`, `renew`: when the command is proposed
-//!   again, and that it is given up ten seconds after it was submitted or renewed (`specs/Gate`).
-//! - [`Rotation`]: `turn_at`: at each position another node is the first, and each further one waits
-//!   for as long as a position takes, so that nodes that all have commands choose one after
-//!   another; `retry_at`: when a command whose round was refused is proposed again, if nothing is
-//!   chosen meanwhile; `learn`: how long a position takes (`specs/Rotation`).
+//!   after a connection that lasted a second. [`is_silent`]: a peer may take five seconds to answer,
+//!   and one more for each 256 KiB that it was sent.
+//! - [`Gate`]: `holds_back`: exactly where a command is under way, or it is not the node's turn
+//!   yet, and a whole Submit begins here. Each event leaves the state of `specs/Gate`: after
+//!   `begin`, `tried`, `refuse` and `learn` the command is proposed again then, and it is given up
+//!   ten seconds after it was submitted or another one was chosen; after `end` the next one is
+//!   taken then. `patience`: how long nothing of this is due. At each position another one of the
+//!   nodes that propose is the first, and each further one waits for as long as a position takes,
+//!   so that nodes that all have commands choose one after another (`specs/Rotation`).
 //!
 //! # Not promised
 //!
-//! That anything is sent, or when: that is the loop's part (`ts_loop`). Chances are whatever the
-//! caller gives.
+//! That anything is sent, or that these events are those that happen: that is the part of
+//! `ts_peers` and `ts_loop`. Chances are whatever the caller gives.
 #![tactic(auto)]
 
 mod dial;
@@ -46,7 +51,6 @@ mod gate;
 mod mailbox;
 mod rotation;
 
-pub use dial::{Dial, FIRST_DELAY, LONGEST_DELAY, Phase};
+pub use dial::{Dial, FIRST_DELAY, LONGEST_DELAY, Phase, SILENCE, is_silent};
 pub use gate::{Gate, LONGEST_WAY, WantedCommand};
 pub use mailbox::{MAX_FRAMES, Mailbox};
-pub use rotation::Rotation;

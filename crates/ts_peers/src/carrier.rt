@@ -16,7 +16,7 @@ use std::alloc::Global;
 use std::net::{Net, SocketAddr};
 use std::random::RandomSource;
 use ts_access::Key;
-use ts_carrier::{Gate, Rotation};
+use ts_carrier::Gate;
 use ts_links::{Connections, Service};
 use ts_node::Identity;
 use ts_sockets::PIECE;
@@ -38,6 +38,9 @@ const STATUS: [u8; 6] = [0, 0, 0, 2, 2, 0x15];
 /// Where the kind stands in a frame.
 const KIND: usize = 5;
 
+/// Where the node stands in a message that it is from.
+const FROM: usize = 6;
+
 /// The kind of a frame that submits a command.
 const SUBMIT: u8 = 0x10;
 
@@ -50,9 +53,6 @@ const BUSY: u8 = 0x03;
 /// How often in a round a node is handed the messages to itself that it made last.
 const STEPS: u32 = 64;
 
-/// For how many milliseconds nodes have turns after another one was seen to propose.
-const RIVALRY: u64 = 1_000;
-
 /// How many milliseconds pass until a node that is behind is told again to catch up, if it has not
 /// learned anything.
 const BEHIND: u64 = 500;
@@ -63,25 +63,17 @@ pub struct Carrier {
     alloc: Global,
     /// Whether messages are carried at all.
     carries: bool,
-    /// Whether the group has no other node.
-    alone: bool,
     /// Whether standard error is told what happens.
     tells: bool,
     lines: Vec<Line>,
-    /// The command of a client that is under way.
-    pub gate: Gate,
-    /// How many commands the node knows.
-    pub prefix: u32,
+    /// The command of a client that is under way, and when it is proposed.
+    gate: Gate,
     /// How many of these standard error was told of, once it was told.
     told: Option<u32>,
     /// From where the commands came that clients submitted here.
     senders: Senders,
-    /// When it learned one last, or was told to catch up.
-    grown: u64,
-    /// In which order nodes propose, where several do.
-    rotation: Rotation,
-    /// When another node was last seen to propose.
-    rivals: u64,
+    /// When the node was last told to catch up.
+    urged: u64,
     /// The slot of the client whose command was taken last.
     last: usize,
     /// How many requests clients had made when it was last looked after.
@@ -97,20 +89,12 @@ impl Carrier {
         Carrier {
             alloc,
             carries,
-            alone: own.nodes == 1,
             tells,
             lines: Vec::new(alloc),
-            gate: Gate::new(),
-            prefix: 0,
+            gate: Gate::new(alloc, own.node, own.nodes),
             told: None,
             senders: Senders::new(alloc),
-            grown: 0,
-            rotation: Rotation {
-                own: own.node,
-                nodes: own.nodes,
-                pace: 1,
-            },
-            rivals: 0,
+            urged: 0,
             last: 0,
             taken: 0,
             more: carries,
@@ -142,28 +126,31 @@ impl Carrier {
         self.last.wrapping_add(1)
     }
 
-    /// Whether the frame that begins here has to wait for a command that is under way. A node that
-    /// is alone in its group chooses each command in its own turn, so that none waits for another.
+    /// Whether the frame that begins here has to wait for a command that is under way.
     pub fn holds_back(&self, held: &[u8], now: u64) -> bool {
-        !self.alone && self.gate.holds_back(held, now)
+        self.gate.holds_back(held, now)
     }
 
-    /// The frame that begins here is taken next of a slot: it may be a client's command, or say
-    /// that a round of the one that is under way was refused.
+    /// The frame that begins here is taken next of a slot, if it is whole: it may be a client's
+    /// command, or say that a round of the one that is under way was refused.
     pub fn see(&mut self, held: &[u8], slot: usize, from: SocketAddr, now: u64) {
-        if held.get(KIND) == Some(&SUBMIT) {
-            self.senders.see(held, Sender::At(from));
+        let Some(frame) = whole_frame(held) else {
+            return;
+        };
+        let kind = frame.get(KIND);
+        if kind == Some(&SUBMIT) {
+            self.senders.see(frame, Sender::At(from));
         }
         if !self.carries {
             return;
         }
-        match held.get(KIND) {
+        match kind {
             Some(&SUBMIT) => {
                 self.last = slot;
-                self.begin(held, now);
+                self.begin(frame, now);
             }
-            Some(&PREPARE) => self.rivals = now,
-            Some(&BUSY) => self.hurry(now),
+            Some(&PREPARE) => self.see_rival(frame, now),
+            Some(&BUSY) => self.refuse(now),
             _ => {}
         }
     }
@@ -181,23 +168,24 @@ impl Carrier {
     }
 
     /// A client's command is taken by this frame.
-    fn begin(&mut self, held: &[u8], now: u64) {
-        if let Some(frame) = frame_at(self.alloc, held) {
+    fn begin(&mut self, frame: &[u8], now: u64) {
+        if let Ok(frame) = Vec::from_slice(self.alloc, frame) {
             let chance = self.chances.next_u64();
             self.gate.begin(frame, now, chance);
         }
     }
 
-    /// A round of the command that is under way was refused: another node has begun one, whose
-    /// command is likely to be chosen first.
-    fn hurry(&mut self, now: u64) {
-        let Some(wanted) = self.gate.wanted() else {
-            return;
-        };
-        let tries = wanted.tries;
+    /// Another node begins a round by this frame. Without memory nodes have no turns for a while.
+    fn see_rival(&mut self, frame: &[u8], now: u64) {
+        if let Some(&node) = frame.get(FROM) {
+            let _seen = self.gate.see_rival(self.alloc, node, now);
+        }
+    }
+
+    /// A round of the command that is under way was refused.
+    fn refuse(&mut self, now: u64) {
         let chance = self.chances.next_u64();
-        let at = self.rotation.retry_at(self.prefix, now, tries, chance);
-        self.gate.hurry(at);
+        self.gate.refuse(now, chance);
     }
 
     /// Puts a message on the line to its node. Without one it is lost.
@@ -217,7 +205,7 @@ impl Carrier {
         for message in messages_in(self.alloc, given) {
             let (from, to) = (message.from, message.to);
             if from == to && matches!(message.body, Body::Busy { .. }) {
-                self.hurry(now);
+                self.refuse(now);
             }
             let Some(frame) = octets_of(self.alloc, Frame::Peer(message)) else {
                 continue;
@@ -233,10 +221,10 @@ impl Carrier {
 }
 
 /// The frame that begins here, if it is whole.
-fn frame_at(alloc: Global, held: &[u8]) -> Option<Vec<u8>> {
+fn whole_frame(held: &[u8]) -> Option<&[u8]> {
     let (head, _) = held.split_first_chunk::<4>()?;
     let end = 4 + u32::from_be_bytes(*head) as usize;
-    Vec::from_slice(alloc, held.get(..end)?).ok()
+    held.get(..end)
 }
 
 /// Hands a node these messages, one after another.
@@ -295,16 +283,7 @@ impl Carrier {
             return;
         };
         if let Some(prefix) = prefix_of(self.alloc, &answer) {
-            if prefix > self.prefix {
-                self.rotation.learn(now.saturating_sub(self.grown));
-                self.prefix = prefix;
-                self.grown = now;
-                self.gate.renew(now);
-                if self.has_rivals(now) {
-                    let at = self.rotation.turn_at(prefix, now);
-                    self.gate.hurry(at);
-                }
-            }
+            self.gate.learn(prefix, now);
         }
     }
 
@@ -341,21 +320,6 @@ impl Carrier {
         self.more = true;
     }
 
-    /// Whether another node was seen to propose a short while ago, so that nodes have turns.
-    fn has_rivals(&self, now: u64) -> bool {
-        now.saturating_sub(self.rivals) < RIVALRY
-    }
-
-    /// Until when no command is taken after one that was chosen: where nodes have turns, until this
-    /// one's.
-    fn rest_until(&self, now: u64) -> u64 {
-        if self.has_rivals(now) {
-            self.rotation.turn_at(self.prefix, now)
-        } else {
-            now
-        }
-    }
-
     /// Looks after the command that is under way: it may be chosen, or its round may be lost.
     fn follow<S: Service>(&mut self, table: &mut Connections, service: &mut S, now: u64)
         requires { S.is_ready service.old }
@@ -363,8 +327,7 @@ impl Carrier {
         ensures ready { S.is_ready service.new }
     {
         if self.is_over(table, service, now) {
-            let until = self.rest_until(now);
-            self.gate.end(until);
+            self.gate.end(now);
             self.more = true;
             return;
         }
@@ -373,8 +336,9 @@ impl Carrier {
 
     /// Whether a peer knows more commands, and none was learned for a while.
     fn is_behind(&self, now: u64) -> bool {
-        now.saturating_sub(self.grown) >= BEHIND
-            && self.lines.iter().any(|line| line.prefix > self.prefix)
+        let prefix = self.gate.prefix();
+        now.saturating_sub(self.gate.grown().max(self.urged)) >= BEHIND
+            && self.lines.iter().any(|line| line.prefix > prefix)
     }
 
     /// Tells the node to catch up, if it is behind.
@@ -387,7 +351,7 @@ impl Carrier {
             return;
         }
         let _answer = ask(table, service, self.alloc, &CATCH_UP, now);
-        self.grown = now;
+        self.urged = now;
         self.more = true;
     }
 
@@ -425,15 +389,10 @@ impl Carrier {
         self.more
     }
 
-    /// How many milliseconds pass, and at most `longest`, until the command that is under way is
-    /// proposed again, or until the next one is taken.
+    /// How many milliseconds the loop may wait, and at most `longest`, for the command that is under
+    /// way, or for the next one.
     pub fn patience(&self, now: u64, longest: u64) -> u64 {
-        let at = match self.gate.wanted() {
-            Some(wanted) => wanted.again,
-            None if now < self.gate.rests() => self.gate.rests(),
-            None => return longest,
-        };
-        at.saturating_sub(now).min(longest)
+        self.gate.patience(now, longest)
     }
 
     /// Tells standard error of commands that were chosen since it was told last: one by one, or how
@@ -449,7 +408,7 @@ impl Carrier {
         ensures reached { HasReached S.turn S.keeps service.old table.old service.new table.new }
         ensures ready { S.is_ready service.new }
     {
-        let prefix = self.prefix;
+        let prefix = self.gate.prefix();
         if !self.tells || self.told == Some(prefix) {
             return;
         }

@@ -8,7 +8,7 @@ use std::alloc::Global;
 use std::net::{Net, SocketAddr};
 use std::random::RandomSource;
 use ts_access::Key;
-use ts_carrier::{Dial, Mailbox, Phase};
+use ts_carrier::{Dial, Mailbox, Phase, SILENCE, is_silent};
 use ts_links::Service;
 use ts_node::Identity;
 use ts_sockets::{PIECE, Socket};
@@ -22,9 +22,6 @@ const STATUS: [u8; 6] = [0, 0, 0, 2, 2, 0x15];
 
 /// How many milliseconds pass until a peer is asked again how many commands it knows.
 const BEAT: u64 = 1_000;
-
-/// How many milliseconds a connection may take to be made, and a peer to answer.
-const SILENCE: u64 = 5_000;
 
 /// The most reads and writes of a line in one round.
 const CALLS: u32 = 16;
@@ -62,6 +59,8 @@ pub struct Line {
     asked: u64,
     /// When octets last came from it, or a connection to it was made last.
     pub heard: u64,
+    /// How many octets were written to it since.
+    sent: u64,
     /// Whether it is the node that is meant, by its answer on this connection.
     is_met: bool,
     /// Which node it is, if it is another one.
@@ -91,6 +90,7 @@ impl Line {
             answers: Feed::new(alloc),
             asked: 0,
             heard: 0,
+            sent: 0,
             is_met: false,
             stranger: None,
             is_known: false,
@@ -214,6 +214,7 @@ impl Line {
         }
         self.dial.reach(now);
         self.heard = now;
+        self.sent = 0;
         self.asked = now;
         self.stranger = None;
         LineChange::None
@@ -318,6 +319,7 @@ impl Line {
             };
             if count > 0 {
                 self.heard = now;
+                self.sent = 0;
                 if !self.take_in(&buffer[..count], now) {
                     return false;
                 }
@@ -359,6 +361,7 @@ impl Line {
                 return false;
             };
             seal.out.skip(count);
+            self.sent = self.sent.saturating_add(count as u64);
             return true;
         }
         let octets = self.mailbox.octets();
@@ -366,6 +369,7 @@ impl Line {
             return false;
         };
         self.mailbox.sent(count);
+        self.sent = self.sent.saturating_add(count as u64);
         true
     }
 
@@ -387,6 +391,21 @@ impl Line {
         true
     }
 
+    /// Reads what has come, unless the peer is silent for too long, and writes what waits. `false`
+    /// where the connection is over.
+    fn read_and_write<S: Service>(
+        &mut self,
+        service: &S,
+        buffer: &mut [u8; PIECE],
+        now: u64,
+    ) -> bool
+        requires { S.is_kept service.now }
+    {
+        self.read_all(buffer, now)
+            && !is_silent(self.heard, self.sent, now)
+            && self.write_all(service)
+    }
+
     /// Looks after a connection that is there.
     fn exchange<S: Service>(
         &mut self,
@@ -400,9 +419,8 @@ impl Line {
         if self.is_met && now.saturating_sub(self.asked) >= BEAT && self.heard >= self.asked {
             self.ask_prefix(now);
         }
-        let is_silent = now.saturating_sub(self.heard) >= SILENCE;
         let was_known = self.is_known;
-        if is_silent || !self.read_all(buffer, now) || !self.write_all(service) {
+        if !self.read_and_write(service, buffer, now) {
             return self.lose(now, chance);
         }
         if self.is_known && !was_known {

@@ -1,5 +1,4 @@
-use Rattle.std.proofs.Common.{rules, ◌≡◌, ◌≤◌, ◌∙◌, ◌++◌, length, List, ℕ, sym, subst}
-use Rattle.ts_carrier.specs.Mailbox.{fill, octets_in}
+use Rattle.std.proofs.Common.{◌≤◌, ◌∙◌, sym, subst}
 use Rattle.ts_carrier.proofs.Full.{enough_ready}
 use Rattle.ts_carrier.proofs.mailbox.Mailbox.fill.Goals as goal
 

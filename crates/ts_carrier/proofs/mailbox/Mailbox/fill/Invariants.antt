@@ -1,6 +1,6 @@
 -- What would be ready and wait in the end, and all octets that wait, stay; each round fewer frames
 -- wait.
-use Rattle.std.proofs.Common.{◌≡◌, ℕ, length}
+use Rattle.std.proofs.Common.{◌≡◌, length}
 use Rattle.ts_carrier.specs.Mailbox.{fill, octets_in}
 use Rattle.ts_carrier.proofs.mailbox.Mailbox.fill.Given as goal
 
