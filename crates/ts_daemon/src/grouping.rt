@@ -1,68 +1,40 @@
 //! The group that a node is served in.
 
 use std::alloc::{AllocError, Global};
-use std::fs;
-use std::io::Read;
 use std::rt::Files;
 use ts_access::{Key, Role};
 use ts_cli::{ServeWords, VERSION, peer_of};
-use ts_files::{TaskFault, fault_of, key_in, keyring_of};
+use ts_files::{TaskFault, key_in, keyring_of};
 use ts_meter::Meter;
+use ts_node::Identity;
 use ts_peers::{Group, PeerAddress};
 use ts_sig::ALGORITHMS;
 use ts_sockets::Access;
 
-/// Where a record's header has the number of its node, and behind it how many nodes there are.
-const NODE: usize = 8;
-
-/// What a record's header says of its node.
-#[derive(Clone, Copy, Debug, PartialEq, Eq)]
-struct Member {
-    node: u8,
-    nodes: u8,
-}
-
-/// The node that a record's header names. Whether it is a header, opening the record says.
-fn member_of<R: Files + Eprint>(rt: &R, path: &str) -> Result<Member, TaskFault> {
-    let mut file = match fs::open(rt, path) {
-        Ok(file) => file,
-        Err(error) => return Err(fault_of(rt, path, &error)),
-    };
-    let mut head = [0u8; NODE + 2];
-    match file.read_exact(&mut head) {
-        Ok(()) => Ok(Member {
-            node: head[NODE],
-            nodes: head[NODE + 1],
-        }),
-        Err(_) => Err(TaskFault::Record(ts_record::RecordFault::NotFormatted)),
-    }
-}
-
 /// Whether a peer of this number may be added: it is another node of the group, and is not there
 /// yet.
-fn may_be_added(peers: &[PeerAddress], member: Member, node: u8) -> bool {
-    node != member.node && node <= member.nodes && peers.iter().all(|peer| peer.node != node)
+fn may_be_added(peers: &[PeerAddress], own: Identity, node: u8) -> bool {
+    node != own.node && node <= own.nodes && peers.iter().all(|peer| peer.node != node)
 }
 
-/// The group that the words name, of the node that the record names.
+/// The group that the words name, of this node.
 ///
 /// # Errors
 ///
-/// `Field` where a peer is named twice, or is no other node of the group; those of the record's
-/// file; `Memory`.
-pub(crate) fn group_of<R: Files + Eprint>(
-    rt: &R,
+/// `Field` where a peer is named twice, or is no other node of the group; `Memory`.
+fn group_of(
+    rt: &impl Eprint,
     alloc: Global,
     words: &ServeWords,
+    own: Identity,
 ) -> Result<Group, TaskFault> {
-    let member = member_of(rt, words.file.as_str())?;
     let mut peers = Vec::new(alloc);
     for text in &words.peers {
         let Some((node, address)) = peer_of(text.as_str()) else {
             return Err(TaskFault::Field);
         };
-        if !may_be_added(&peers, member, node) {
-            let (own, nodes) = (member.node, member.nodes);
+        if !may_be_added(&peers, own, node) {
+            let (own, nodes) = (own.node, own.nodes);
             let _ = eprintln!(rt;
                 "trustd: --peer {node}: this is node {own} of {nodes}, and a peer is another, named once"
             );
@@ -72,7 +44,7 @@ pub(crate) fn group_of<R: Files + Eprint>(
         peers.push(PeerAddress { node, address })?;
     }
     Ok(Group {
-        carries: member.nodes == 1 || !peers.is_empty(),
+        carries: own.nodes == 1 || !peers.is_empty(),
         peers,
         tells: !words.quiet,
     })
@@ -103,23 +75,23 @@ fn copy_of(alloc: Global, text: &Option<String>) -> Result<Option<String>, TaskF
     }
 }
 
-/// Who may ask the node that the record names, and what it shows its peers, as the words say; and
-/// what counts the work of its disks.
+/// Who may ask the node of this number, and what it shows its peers, as the words say; and what
+/// counts the work of its disks.
 ///
 /// # Errors
 ///
 /// `Field` where the node's own key is not one of a peer with its number; those of the files.
-pub(crate) fn access_of<'m, R: Files + Eprint>(
+fn access_of<'m, R: Files + Eprint>(
     rt: &R,
     alloc: Global,
     words: &ServeWords,
+    node: u8,
     meter: &'m Meter,
 ) -> Result<Access<'m>, TaskFault> {
-    let member = member_of(rt, words.file.as_str())?;
     Ok(Access {
-        node: member.node,
+        node,
         keyring: keyring_of(rt, alloc, &words.keys)?,
-        own: own_key(rt, alloc, words, member.node)?,
+        own: own_key(rt, alloc, words, node)?,
         open: words.open,
         http: copy_of(alloc, &words.http)?,
         meter: Some(meter),
@@ -150,7 +122,7 @@ fn about_of(alloc: Global, words: &ServeWords) -> Result<String, AllocError> {
 }
 
 /// Says on standard error what is served, and what is not protected, unless that is not wanted.
-pub(crate) fn say_start(rt: &impl Eprint, words: &ServeWords, group: &Group, access: &Access<'_>) {
+fn say_start(rt: &impl Eprint, words: &ServeWords, group: &Group, access: &Access<'_>) {
     if words.quiet {
         return;
     }
@@ -164,7 +136,40 @@ pub(crate) fn say_start(rt: &impl Eprint, words: &ServeWords, group: &Group, acc
     if access.keyring.is_none() {
         let _ = eprintln!(rt; "trustd: no --keys: whoever reaches {listen} may change the store");
     }
+    if !group.carries {
+        let _ = eprintln!(rt;
+            "trustd: no --peer: only `trustd carry` takes messages to the others"
+        );
+    }
+    if access.keyring.is_none() && access.own.is_some() {
+        let _ = eprintln!(rt; "trustd: --key without --keys: others reach this node without one");
+    }
     if access.keyring.is_some() && access.own.is_none() && peers > 0 {
         let _ = eprintln!(rt; "trustd: no --key: peers that want keys refuse this node");
+    }
+}
+
+/// The group that the words name, of this node, and who may ask it. Standard error is told of them.
+///
+/// # Errors
+///
+/// Those of [`group_of`] and of [`access_of`].
+pub(crate) fn setting_of<'m, R: Files + Eprint>(
+    rt: &R,
+    alloc: Global,
+    words: &ServeWords,
+    own: Identity,
+    meter: &'m Meter,
+) -> Result<(Group, Access<'m>), TaskFault> {
+    let group = group_of(rt, alloc, words, own)?;
+    match access_of(rt, alloc, words, own.node, meter) {
+        Ok(access) => {
+            say_start(rt, words, &group, &access);
+            Ok((group, access))
+        }
+        Err(fault) => {
+            drop(group);
+            Err(fault)
+        }
     }
 }

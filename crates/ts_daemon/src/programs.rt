@@ -2,7 +2,7 @@
 
 ghost use Rattle.std.specs.Prelude.{◌≤◌};
 
-use crate::grouping::{access_of, group_of, say_start};
+use crate::grouping::setting_of;
 use std::alloc::Global;
 use std::fs::File;
 use std::io::Print;
@@ -19,10 +19,9 @@ use ts_loop::{LoopFault, serve_all};
 use ts_memo::{MemoCheck, ServedCheck};
 use ts_meter::{Meter, MeteredDisk};
 use ts_node::Node;
-use ts_peers::Group;
 use ts_serve::Server;
 use ts_sig::TableCheck;
-use ts_sockets::{Access, Limits};
+use ts_sockets::Limits;
 use ts_synod::NodeFault;
 
 /// Makes the record of a node of a group, and says so.
@@ -150,8 +149,8 @@ fn fault_of_loop(rt: &impl Eprint, words: &ServeWords, fault: LoopFault) -> Task
     }
 }
 
-/// Serves the node on two disks, whose signatures this check decides, to many clients at once. What
-/// owns a node is let go by `drop`, which keeps the proof short.
+/// Serves the node on two disks, whose signatures this check decides, as the words say. What owns a
+/// node is let go by `drop`, which keeps the proof short.
 fn serve_node<
     D: Disk + Drop,
     R: Net<Listener = TcpListener, Stream = TcpStream> + Files + Clock + RandomSource + Eprint,
@@ -161,8 +160,7 @@ fn serve_node<
     disks: (D, D),
     check: ServedCheck,
     words: &ServeWords,
-    group: &Group,
-    access: &mut Access<'_>,
+    meter: &Meter,
 ) -> Result<(), TaskFault> {
     let (a, b) = disks;
     let node = match Node::open(alloc, a, b, Answers::new(alloc, check)) {
@@ -173,77 +171,27 @@ fn serve_node<
             return Err(TaskFault::from(fault));
         }
     };
+    let (group, mut access) = match setting_of(rt, alloc, words, node.identity(), meter) {
+        Ok(setting) => setting,
+        Err(fault) => {
+            drop(node);
+            return Err(fault);
+        }
+    };
     let mut server = match Server::new(alloc, node) {
         Ok(server) => server,
         Err(node) => {
-            drop(node);
+            drop((node, group, access));
             return Err(TaskFault::Memory);
         }
     };
-    let served = serve_all(
-        rt,
-        alloc,
-        &mut server,
-        words.listen.as_str(),
-        &limits_of(words),
-        group,
-        access,
-    );
-    drop(server);
+    let (listen, limits) = (words.listen.as_str(), limits_of(words));
+    let served = serve_all(rt, alloc, &mut server, listen, &limits, &group, &mut access);
+    drop((server, group, access));
     match served {
         Ok(_) => Ok(()),
         Err(fault) => Err(fault_of_loop(rt, words, fault)),
     }
-}
-
-/// Serves the node on two disks, in this group, to those whom the words let in.
-fn serve_group<
-    D: Disk + Drop,
-    R: Net<Listener = TcpListener, Stream = TcpStream> + Files + Clock + RandomSource + Eprint,
->(
-    rt: &R,
-    alloc: Global,
-    disks: (D, D),
-    check: ServedCheck,
-    words: &ServeWords,
-    group: &Group,
-    meter: &Meter,
-) -> Result<(), TaskFault> {
-    let mut access = match access_of(rt, alloc, words, meter) {
-        Ok(access) => access,
-        Err(fault) => {
-            drop((disks, check));
-            return Err(fault);
-        }
-    };
-    say_start(rt, words, group, &access);
-    let served = serve_node(rt, alloc, disks, check, words, group, &mut access);
-    drop(access);
-    served
-}
-
-/// Serves the node on two disks as the words say.
-fn serve_disks<
-    D: Disk + Drop,
-    R: Net<Listener = TcpListener, Stream = TcpStream> + Files + Clock + RandomSource + Eprint,
->(
-    rt: &R,
-    alloc: Global,
-    disks: (D, D),
-    check: ServedCheck,
-    words: &ServeWords,
-    meter: &Meter,
-) -> Result<(), TaskFault> {
-    let group = match group_of(rt, alloc, words) {
-        Ok(group) => group,
-        Err(fault) => {
-            drop((disks, check));
-            return Err(fault);
-        }
-    };
-    let served = serve_group(rt, alloc, disks, check, words, &group, meter);
-    drop(group);
-    served
 }
 
 /// Serves the node whose record is locked.
@@ -267,7 +215,7 @@ fn serve_locked<
         let _ = eprintln!(rt; "signatures are the examples' stand-in: anybody can forge them");
     }
     let disks = (MeteredDisk::new(a, &meter), MeteredDisk::new(b, &meter));
-    serve_disks(rt, alloc, disks, check, words, &meter)
+    serve_node(rt, alloc, disks, check, words, &meter)
 }
 
 /// Serves the node whose record lies in a file and the one beside it, as the words say. Signatures

@@ -66,8 +66,10 @@ fn time_of_change<R: Files>(rt: &R, path: &str) -> Option<SystemTime> {
 pub struct Keyring {
     path: String,
     keys: Vec<Key>,
-    /// When the file was changed last, as far as it is known.
+    /// When the file was changed last of which the keys are, as far as it is known.
     changed: Option<SystemTime>,
+    /// When the file was changed last that could not be used, if standard error was told of it.
+    unusable: Option<Option<SystemTime>>,
     /// When it was looked at last.
     looked: u64,
 }
@@ -84,6 +86,7 @@ impl Keyring {
             path: String::from_str(alloc, path)?,
             keys: read_key_file(rt, alloc, path)?,
             changed,
+            unusable: None,
             looked: 0,
         })
     }
@@ -93,8 +96,10 @@ impl Keyring {
         &self.keys
     }
 
-    /// Reads the file again, if a second has gone since it was looked at and it has changed. Where
-    /// it can't be read, or a line is no key, the keys stay. Standard error is told of both.
+    /// Reads the file again, if a second has gone since it was looked at and it has changed since its
+    /// keys were read. Where it can't be read, or a line is no key, the keys stay, and it is read
+    /// again a second later: it may be readable then, without a change. Standard error is told of
+    /// both, and of a file that can't be used once for each change of it.
     pub fn refresh<R: Files + Eprint>(&mut self, rt: &R, alloc: Global, now: u64) {
         if now.saturating_sub(self.looked) < LOOK {
             return;
@@ -105,15 +110,20 @@ impl Keyring {
         if changed == self.changed {
             return;
         }
-        self.changed = changed;
         let read = read_key_file(rt, alloc, path);
         let _told = match read {
             Ok(keys) => {
                 let count = keys.len();
                 self.keys = keys;
+                self.changed = changed;
+                self.unusable = None;
                 eprintln!(rt; "trustd: {path}: read again, {count} keys")
             }
-            Err(_) => eprintln!(rt; "trustd: {path}: can't be used; the keys stay as they were"),
+            Err(_) if self.unusable == Some(changed) => Ok(()),
+            Err(_) => {
+                self.unusable = Some(changed);
+                eprintln!(rt; "trustd: {path}: can't be used; the keys stay as they were")
+            }
         };
     }
 }

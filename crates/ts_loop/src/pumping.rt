@@ -1,14 +1,16 @@
 //! What one round does at one slot: first it reads and takes requests, and once what followed from
 //! them is kept on disk it writes.
 
+ghost use Rattle.std.specs.Prelude.{◌≡◌, length, nat_le};
 ghost use Rattle.ts_links.specs.Calls.{HasReached, IsQuiet};
+ghost use Rattle.ts_links.specs.Table.{waits_at};
 
 use crate::watch::{Watch, kind_at, moment};
 use std::net::SocketAddr;
 use std::rt::Clock;
 use ts_access::Key;
 use ts_links::reaching::take_some;
-use ts_links::{Connections, Service, Stage};
+use ts_links::{Connections, MAX_WAITING, Service, Stage};
 use ts_peers::Carrier;
 use ts_sockets::{Door, PIECE, finish, read_once, shut_if_done, write_last};
 
@@ -73,6 +75,13 @@ fn what_is_left(table: &Connections, door: &Door, slot: usize, taken: u32) -> Pu
     }
 }
 
+/// Whether so much waits on a slot that no request is taken.
+fn has_no_room(table: &Connections, slot: usize) -> bool
+    ensures { result ≡ nat_le 65536 (length (waits_at table.now.links.items slot)) }
+{
+    table.waiting(slot).len() >= MAX_WAITING
+}
+
 /// Takes the first request of a connection, and counts it. How many were taken, and whether memory
 /// was there.
 fn take_next<S: Service, R: Clock>(
@@ -97,8 +106,8 @@ fn take_next<S: Service, R: Clock>(
     (taken, good)
 }
 
-/// Takes the first request of a connection, unless it has to wait for a command that is under way.
-/// How many were taken, and whether memory was there.
+/// Takes the first request of a connection, unless it has to wait for a command that is under way,
+/// or until there is room for its answer. How many were taken, and whether memory was there.
 fn take_one<S: Service, R: Clock>(
     round: &Round<'_, R>,
     table: &mut Connections,
@@ -112,7 +121,7 @@ fn take_one<S: Service, R: Clock>(
     ensures reached { HasReached S.turn S.keeps service.old table.old service.new table.new }
     ensures ready { S.is_ready service.new }
 {
-    if carrier.holds_back(table.octets_held(slot), round.now) {
+    if has_no_room(table, slot) || carrier.holds_back(table.octets_held(slot), round.now) {
         return (0, true);
     }
     carrier.see(table.octets_held(slot), slot, from, round.now);
@@ -187,6 +196,7 @@ pub(crate) fn end<S: Service, R>(
         write_last(service, door);
         return PumpEnd::Failed;
     }
+    let was_full = has_no_room(table, slot);
     let Some(more) = finish(table, service, door, round.keys, slot, round.now) else {
         return PumpEnd::Failed;
     };
@@ -194,7 +204,8 @@ pub(crate) fn end<S: Service, R>(
     if door.held {
         return PumpEnd::Held;
     }
-    if more {
+    // No event says that there is room for the answers to requests that are held.
+    if more || (was_full && !has_no_room(table, slot)) {
         return PumpEnd::More;
     }
     what_is_left(table, door, slot, door.taken)

@@ -1,8 +1,10 @@
 -- When connections are accepted, and how long one may last where keys are wanted. Moments are
 -- milliseconds on one clock.
-use Rattle.std.specs.Prelude.{◌-◌, ℕ, Bool, true, false, Option, Some, None, nat_le}
+use Rattle.std.specs.Prelude.{◌-◌, ◌/◌, ℕ, Bool, true, false, Option, Some, None, nat_le, nat_lt}
 use Rattle.std.specs.Prelude.{if◌then◌else◌}
-use Rattle.ts_access.specs.Entering.{has_begun}
+use Rattle.ts_access.specs.Entering.{has_begun, role_in}
+use Rattle.ts_access.specs.declared.key.Role.{Role}
+use Rattle.ts_access.specs.declared.key.Role.TheVariants.{Reader}
 use Rattle.ts_sockets.specs.declared.accepting.Accepts.{Accepts}
 use Rattle.ts_sockets.specs.declared.accepting.Accepts.TheVariants.{AtEvent, Now, At}
 use Rattle.ts_sockets.specs.declared.lock.Lock.{Lock}
@@ -26,3 +28,15 @@ is_over_at None millis now = false
 -- when it was accepted, if it has shown no key since
 abbrev pub unknown_since : Lock → Option ℕ
 unknown_since lock = if has_begun lock.entrance.stage then None else Some lock.since
+
+-- when it was accepted, if the key that it has shown is a reader's
+abbrev pub moment_of_reader : Option Role → ℕ → Option ℕ
+moment_of_reader (Some Reader) since = Some since
+moment_of_reader other since = None
+
+abbrev pub reader_since : Lock → Option ℕ
+reader_since lock = moment_of_reader (role_in lock.entrance.stage) lock.since
+
+-- so many readers leave less than an eighth of the places to others
+abbrev pub are_too_many : ℕ → ℕ → Bool
+are_too_many readers places = nat_lt (places - places / 8) readers

@@ -2,7 +2,7 @@
 
 ghost use Rattle.std.specs.Prelude.{◌≡◌};
 ghost use Rattle.ts_links.specs.Calls.{IsQuiet};
-ghost use Rattle.ts_sockets.specs.Doors.{is_due};
+ghost use Rattle.ts_sockets.specs.Doors.{are_too_many, is_due};
 
 use crate::access::Access;
 use crate::counts::{Counts, Why};
@@ -124,8 +124,51 @@ fn longest_unknown(doors: &[Option<Door>]) -> Option<usize> {
     found
 }
 
+/// When the connection of a door was accepted, if it has shown the key of a reader.
+fn reader_since(place: &Option<Door>) -> Option<u64> {
+    match place {
+        Some(
+            Door {
+                lock: Some(lock),
+                ..
+            },
+        ) => lock.reader_since(),
+        _ => None,
+    }
+}
+
+/// Whether so many readers leave less than an eighth of the places to others.
+fn are_too_many(readers: usize, places: usize) -> bool
+    ensures { result ≡ are_too_many readers places }
+{
+    readers > places - places / 8
+}
+
+/// The slot of the reader that came last, where readers leave less than an eighth of the places to
+/// peers, to admins and to those that have yet to show a key.
+fn latest_reader(doors: &[Option<Door>]) -> Option<usize> {
+    let mut readers = 0usize;
+    let mut found = None;
+    let mut latest = 0;
+    for (slot, place) in doors.iter().enumerate() {
+        if let Some(since) = reader_since(place) {
+            readers = readers.saturating_add(1);
+            if since >= latest {
+                latest = since;
+                found = Some(slot);
+            }
+        }
+    }
+    if are_too_many(readers, doors.len()) {
+        found
+    } else {
+        None
+    }
+}
+
 /// Closes a connection, and opens its slot anew: where keys are wanted, the one that has shown none
-/// for the longest time; else the one that has been idle longest. `None` where there is none.
+/// for the longest time, and else one of too many readers; where none are, the one that has been
+/// idle longest. `None` where there is none.
 fn make_room(
     table: &mut Connections,
     doors: &mut [Option<Door>],
@@ -136,7 +179,7 @@ fn make_room(
     ensures { IsQuiet table.old table.new }
 {
     let slot = if is_locked {
-        longest_unknown(doors)?
+        longest_unknown(doors).or_else(|| latest_reader(doors))?
     } else {
         table.idlest()?
     };

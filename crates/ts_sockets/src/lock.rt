@@ -2,11 +2,11 @@
 
 ghost use Rattle.std.specs.Prelude.{◌≡◌, ◌≤◌, drop, length, nat_lt};
 ghost use Rattle.ts_links.specs.Calls.{IsQuiet};
-ghost use Rattle.ts_sockets.specs.Doors.{is_over, unknown_since};
+ghost use Rattle.ts_sockets.specs.Doors.{is_over, reader_since, unknown_since};
 
 use std::alloc::Global;
 use std::random::RandomSource;
-use ts_access::{Entrance, EntranceFault, Key};
+use ts_access::{Entrance, EntranceFault, Key, Role};
 use ts_guard::MAX_CONTENT;
 use ts_keyring::draw;
 use ts_links::Connections;
@@ -81,6 +81,16 @@ impl Lock {
             return None;
         }
         Some(self.since)
+    }
+
+    /// When the connection was accepted, if the key that was shown is a reader's.
+    pub fn reader_since(&self) -> Option<u64>
+        ensures { result ≡ reader_since self.now }
+    {
+        match self.entrance.role() {
+            Some(Role::Reader) => Some(self.since),
+            _ => None,
+        }
     }
 
     /// What is ready to be written.
