@@ -50,11 +50,13 @@ revocation_words code =
     else (if code == 10 then codes "the authority of its attributes was compromised"
     else codes "no reason is given")))))))
 
--- that the key of its issuer did not sign it, or that its algorithm is not checked
+-- that the key above it, of the certificate before it or of the anchor, did not sign it, or is of a
+-- kind or size that is not checked; or that its algorithm is not
 abbrev pub signature_words : Option SignatureAlgorithm → Certificate → List ℕ
 signature_words None c = codes "is signed by an algorithm that is not checked here"
 signature_words (Some algorithm) c =
-    codes "is not signed by the key of its issuer " ++ name_text c.tbsCertificate.issuer
+    codes "is not signed by the key above it, or that key is of a kind not checked here; its issuer is "
+    ++ name_text c.tbsCertificate.issuer
 
 -- that the certificate's issuer is not the subject above it
 abbrev pub issuer_words : Certificate → List ℕ
@@ -71,7 +73,8 @@ extension_words content = codes "has the critical extension " ++ (oid_text conte
 -- the words of a reason that says nothing of the certificate beside itself
 abbrev pub plain_words : {O : Type 0} → Reason O → List ℕ
 plain_words AnchorPurpose = codes "is under a trust anchor that is not trusted for this purpose"
-plain_words Undetermined = codes "may be revoked, the CRLs at hand do not tell"
+plain_words Undetermined =
+    codes "may be revoked: the CRL that would tell is missing, or not of this moment"
 plain_words UnsupportedConstraint =
     codes "has a name whose form is constrained and not processed"
 plain_words NotPermitted = codes "has a name that lies in no permitted subtree"

@@ -90,6 +90,10 @@ fn write_extension(alloc: Global, line: &mut Line, content: &[u8]) -> Result<(),
     line.text(b", which is not processed")
 }
 
+/// The words for a signature that is not good, before the name of the issuer.
+const SIGNATURE: &[u8] =
+    b"is not signed by the key above it, or that key is of a kind not checked here; its issuer is ";
+
 /// Writes the words for a certificate that the key above it did not sign, or whose signature is by
 /// an algorithm that is not checked here.
 fn write_signature(alloc: Global, line: &mut Line, cert: &Cert<'_>) -> Result<(), AllocError>
@@ -98,7 +102,7 @@ fn write_signature(alloc: Global, line: &mut Line, cert: &Cert<'_>) -> Result<()
 {
     match algorithm_named(cert.signature_algorithm().whole) {
         Some(_) => {
-            line.text(b"is not signed by the key of its issuer ")?;
+            line.text(SIGNATURE)?;
             write_name(alloc, line, cert.issuer())
         }
         None => line.text(b"is signed by an algorithm that is not checked here"),
@@ -120,7 +124,9 @@ fn plain_words(reason: &Reason<OidRef<'_>>) -> &'static str
 {
     match reason {
         Reason::AnchorPurpose => "is under a trust anchor that is not trusted for this purpose",
-        Reason::Undetermined => "may be revoked, the CRLs at hand do not tell",
+        Reason::Undetermined => {
+            "may be revoked: the CRL that would tell is missing, or not of this moment"
+        }
         Reason::UnsupportedConstraint => "has a name whose form is constrained and not processed",
         Reason::NotPermitted => "has a name that lies in no permitted subtree",
         Reason::Excluded => "has a name that lies in an excluded subtree",

@@ -49,7 +49,7 @@ pub enum TaskFault {
     Read,
     /// A connection was not made, or a write failed.
     Write,
-    /// A stream had not ended after 16,777,216 reads.
+    /// A stream had not ended after 16,777,216 reads; or more was answered than was asked for.
     ReadLimit,
     /// A stream ended within a frame, or before the answer.
     Cut,

@@ -30,14 +30,19 @@ fn name_of(kind: Kind) -> &'static str {
     }
 }
 
-/// The label of the first block of a text of PEM, whatever it is, as `PRIVATE KEY`.
+/// The most octets of a label that is said.
+const MAX_LABEL: usize = 64;
+
+/// The label of the first block of a text of PEM, whatever it is, as `PRIVATE KEY`: what stands
+/// before the next five dashes (RFC 7468 3), and nothing behind, which may be a key.
 fn first_label(octets: &[u8]) -> Option<&str> {
     let Ok(text) = str::from_utf8(octets) else {
         return None;
     };
     for line in text.lines() {
         if let Some(rest) = line.strip_prefix("-----BEGIN ") {
-            return rest.trim_end().strip_suffix("-----");
+            let (label, _) = rest.split_once("-----")?;
+            return Some(label).filter(|label| label.len() <= MAX_LABEL);
         }
     }
     None
@@ -59,7 +64,11 @@ fn say_label(
 }
 
 /// Says on standard error what a file holds that has none of the wanted kind. Whether it is known.
-pub(crate) fn say_other(
+///
+/// # Errors
+///
+/// Memory that is refused.
+pub fn say_other(
     rt: &impl Eprint,
     alloc: Global,
     path: &str,

@@ -13,7 +13,7 @@
 //!   (`IsOther` in `specs/Others`).
 //! - [`read_file`], [`read_within`], [`read_at_most`]: no more octets than a frame may have, or
 //!   than are wanted (`short`).
-//! - [`values_in`], [`octets_of`], [`certificates_of`], [`crls_of`], [`values_of`], [`files_of`],
+//! - [`values_in`], [`octets_of`], [`certificates_of`], [`values_of`], [`files_of`],
 //!   [`key_in`], [`keyring_of`], [`fault_of`], [`second`], [`draw_id`]: files, and what is wrong
 //!   with them. It is safe and ends; which octets a file gives, no clause says.
 //! - [`format_files`], [`migrate_files`], [`open_disks`], [`RecordLock`]: they end; what files give
@@ -46,11 +46,10 @@ pub use files::{MAX_SHOWN, MAX_TABLE, fault_of, read_at_most, read_file, read_wi
 pub use folders::files_of;
 pub use ids::draw_id;
 pub use keys::{key_in, keyring_of};
-pub use kinds::other_kind;
+pub use kinds::{other_kind, say_other};
 pub use locking::RecordLock;
 pub use material::{
-    certificate_of, certificates_of, crl_of, crls_of, is_certificate, octets_of, values_in,
-    values_of,
+    certificate_of, certificates_of, crl_of, is_certificate, octets_of, values_in, values_of,
 };
 pub use printing::{put, say};
 pub use vouching::{issuers_in, vouch_by, vouch_for_file};

@@ -46,22 +46,33 @@ pub fn certificates_of<R: Files + Eprint>(
     alloc: Global,
     path: &str,
 ) -> Result<Vec<Vec<u8>>, TaskFault> {
-    let octets = read_file(rt, alloc, path)?;
-    values_of(rt, path, read_certificates(alloc, &octets))
+    any_values_in(rt, alloc, path, Kind::Certificate)
 }
 
-/// The CRLs of a file, in the same way.
-///
-/// # Errors
-///
-/// Those of [`certificates_of`].
-pub fn crls_of<R: Files + Eprint>(
+/// The certificates, or the CRLs, of the octets of a file.
+fn values_read(
+    rt: &impl Eprint,
+    alloc: Global,
+    path: &str,
+    wanted: Kind,
+    octets: &[u8],
+) -> Result<Vec<Vec<u8>>, TaskFault> {
+    let read = match wanted {
+        Kind::List => read_crls(alloc, octets),
+        _ => read_certificates(alloc, octets),
+    };
+    values_of(rt, path, read)
+}
+
+/// The certificates, or the CRLs, of a file, whatever it holds.
+fn any_values_in<R: Files + Eprint>(
     rt: &R,
     alloc: Global,
     path: &str,
+    wanted: Kind,
 ) -> Result<Vec<Vec<u8>>, TaskFault> {
     let octets = read_file(rt, alloc, path)?;
-    values_of(rt, path, read_crls(alloc, &octets))
+    values_read(rt, alloc, path, wanted, &octets)
 }
 
 /// The certificates, or the CRLs, of a file. Of one that has none standard error says what it
@@ -77,11 +88,7 @@ pub fn values_in<R: Files + Eprint>(
     wanted: Kind,
 ) -> Result<Vec<Vec<u8>>, TaskFault> {
     let octets = read_file(rt, alloc, path)?;
-    let read = match wanted {
-        Kind::List => read_crls(alloc, &octets),
-        _ => read_certificates(alloc, &octets),
-    };
-    let values = values_of(rt, path, read)?;
+    let values = values_read(rt, alloc, path, wanted, &octets)?;
     if values.is_empty() || !is_pem(&octets) {
         let is_other = say_other(rt, alloc, path, wanted, &octets)?;
         if is_other || values.is_empty() {
@@ -121,10 +128,26 @@ fn single(rt: &impl Eprint, path: &str, mut values: Vec<Vec<u8>>) -> Result<Vec<
     match values.pop() {
         Some(value) if count == 1 => Ok(value),
         _ => {
-            let _ = eprintln!(rt; "trustd: {path}: holds {count} of its kind, where one is wanted");
+            let _ = eprintln!(rt; "trustd: {path}: holds {count} of them, where one is wanted");
             Err(TaskFault::Field)
         }
     }
+}
+
+/// The one certificate, or the one CRL, of a file. Where it is forced, the file may be anything.
+fn one_in<R: Files + Eprint>(
+    rt: &R,
+    alloc: Global,
+    path: &str,
+    wanted: Kind,
+    force: bool,
+) -> Result<Vec<u8>, TaskFault> {
+    let values = if force {
+        any_values_in(rt, alloc, path, wanted)?
+    } else {
+        values_in(rt, alloc, path, wanted)?
+    };
+    single(rt, path, values)
 }
 
 /// Says why a file's octets are refused, with the rule and its offset.
@@ -138,8 +161,7 @@ fn refuse(rt: &impl Eprint, path: &str, what: &str, fault: CertFault) -> TaskFau
 ///
 /// # Errors
 ///
-/// Those of [`certificates_of`]; `Field` where the file has another number of them, or a rule is
-/// broken.
+/// Those of [`values_in`]; `Field` where the file has several, or a rule is broken.
 pub fn certificate_of<R: Files + Eprint>(
     rt: &R,
     alloc: Global,
@@ -148,7 +170,7 @@ pub fn certificate_of<R: Files + Eprint>(
 ) -> Result<Vec<u8>, TaskFault>
     ensures { IfOk result (λ octets. force ≡ false → is_ok (certificate_of octets.items) ≡ true) }
 {
-    let octets = single(rt, path, certificates_of(rt, alloc, path)?)?;
+    let octets = one_in(rt, alloc, path, Kind::Certificate, force)?;
     if force {
         return Ok(octets);
     }
@@ -192,7 +214,7 @@ fn is_crl(rt: &impl Eprint, path: &str, octets: &[u8]) -> bool
 ///
 /// # Errors
 ///
-/// Those of [`crls_of`]; `Field` where the file has another number of them, or a rule is broken.
+/// Those of [`values_in`]; `Field` where the file has several, or a rule is broken.
 pub fn crl_of<R: Files + Eprint>(
     rt: &R,
     alloc: Global,
@@ -201,7 +223,7 @@ pub fn crl_of<R: Files + Eprint>(
 ) -> Result<Vec<u8>, TaskFault>
     ensures { IfOk result (λ octets. force ≡ false → is_ok (crl_of octets.items) ≡ true) }
 {
-    let octets = single(rt, path, crls_of(rt, alloc, path)?)?;
+    let octets = one_in(rt, alloc, path, Kind::List, force)?;
     if force || is_crl(rt, path, &octets) {
         return Ok(octets);
     }

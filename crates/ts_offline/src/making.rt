@@ -8,11 +8,11 @@ use ts_cli::{
     CommandAction, CommandWords, QuestionWords, command_octets, id_text, question_octets,
 };
 use ts_files::{
-    MAX_SHOWN, TaskFault, certificate_of, certificates_of, crl_of, crls_of, draw_id, put,
-    read_at_most, read_within, second, values_of, vouch_for_file,
+    MAX_SHOWN, TaskFault, certificate_of, certificates_of, crl_of, draw_id, octets_of, put,
+    read_at_most, read_within, say_other, second, values_in, values_of, vouch_for_file,
 };
 use ts_pem::{PemFault, is_pem, read_certificates, read_crls};
-use ts_show::show;
+use ts_show::{Kind, show};
 
 /// The id of a command: the one that is given, or a new one, which is printed on standard error, so
 /// that the command can be known again.
@@ -62,21 +62,6 @@ pub fn make_command(
     put(rt, &octets)
 }
 
-/// The certificates of these files, in their order.
-fn read_chain<R: Files + Eprint>(
-    rt: &R,
-    alloc: Global,
-    files: &[String],
-) -> Result<Vec<Vec<u8>>, TaskFault> {
-    let mut found = Vec::new(alloc);
-    for file in files {
-        for certificate in certificates_of(rt, alloc, file.as_str())? {
-            found.push(certificate)?;
-        }
-    }
-    Ok(found)
-}
-
 /// Writes the encoded question that words say to standard output.
 ///
 /// # Errors
@@ -87,7 +72,7 @@ pub fn make_question(
     words: &QuestionWords,
 ) -> Result<(), TaskFault> {
     let alloc = rt.alloc();
-    let certificates = read_chain(rt, alloc, &words.files)?;
+    let certificates = octets_of(rt, alloc, &words.files, Kind::Certificate)?;
     let octets = question_octets(alloc, words, &certificates)?;
     put(rt, &octets)
 }
@@ -97,7 +82,8 @@ pub fn make_question(
 ///
 /// # Errors
 ///
-/// Those of the file; `Field` where a block is broken; `Write`.
+/// Those of the file; `Field` where a block is broken, or a text of PEM has neither certificates nor
+/// CRLs; `Write`.
 pub fn print_id(
     rt: &(impl AllocGlobal + Files + Print + Eprint),
     file: &str,
@@ -105,7 +91,7 @@ pub fn print_id(
     let alloc = rt.alloc();
     let mut values = certificates_of(rt, alloc, file)?;
     if values.is_empty() {
-        values = crls_of(rt, alloc, file)?;
+        values = values_in(rt, alloc, file, Kind::List)?;
     }
     for octets in &values {
         let text = id_text(alloc, octets)?;
@@ -127,14 +113,20 @@ fn blocks_of(alloc: Global, octets: &[u8]) -> Result<Vec<Vec<u8>>, PemFault> {
     Ok(values)
 }
 
-/// Prints what the blocks of a text of PEM hold, one after another.
+/// Prints what the blocks of a text of PEM hold, one after another. Where it has none that is read,
+/// standard error says what it holds.
 fn show_blocks(
     rt: &(impl AllocGlobal + Print + Eprint),
     file: &str,
     octets: &[u8],
 ) -> Result<(), TaskFault> {
     let alloc = rt.alloc();
-    for block in &values_of(rt, file, blocks_of(alloc, octets))? {
+    let blocks = values_of(rt, file, blocks_of(alloc, octets))?;
+    if blocks.is_empty() {
+        let _is_known = say_other(rt, alloc, file, Kind::Certificate, octets)?;
+        return Err(TaskFault::Field);
+    }
+    for block in &blocks {
         let text = show(alloc, block, &[])?;
         put(rt, &text)?;
     }
@@ -146,7 +138,8 @@ fn show_blocks(
 ///
 /// # Errors
 ///
-/// Those of the file; `TooLong` above 4 GiB; `Field` where a block of PEM is broken; `Write`.
+/// Those of the file; `TooLong` above 4 GiB; `Field` where a block of PEM is broken, or none is of
+/// these; `Write`.
 pub fn show_file(
     rt: &(impl AllocGlobal + Files + Print + Eprint),
     file: &str,

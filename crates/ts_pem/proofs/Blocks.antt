@@ -1,17 +1,17 @@
 -- The reading of lines gives the blocks of the relation.
-use Rattle.std.proofs.Common.{◌≡◌, ℕ, ◌+◌, Bool, true, false, not, List, [], ◌∷◌, ◌++◌, refl, ap, sym, ◌∙◌, subst, append_assoc}
-use Rattle.std.specs.Prelude.{Option, Some, None, option_map, Result, Ok, Err, if◌then◌else◌, IfOk, MatchResult}
-use Rattle.std.specs.List.{list_all, flat_map, AllByRecursion}
+use Rattle.std.proofs.Common.{◌≡◌, ℕ, ◌+◌, Bool, true, false, List, [], ◌∷◌, ◌++◌, refl, ap, sym, ◌∙◌, subst, append_assoc}
+use Rattle.std.specs.Prelude.{Option, Some, None, Result, Ok, Err, IfOk, MatchResult}
+use Rattle.std.specs.List.{list_all, AllByRecursion}
 use Rattle.std.specs.Str.{bytes_eq}
 use Rattle.std.proofs.lemmas.List.{append-nil}
 use Rattle.ts_pem.specs.declared.block.Label.{Label}
 use Rattle.ts_pem.specs.declared.fault.PemFault.{PemFault}
-use Rattle.ts_pem.specs.declared.fault.PemFault.TheVariants.{NoEnd, OtherEnd, NotBase64, OutOfMemory}
-use Rattle.ts_pem.specs.Pem.{Reading, PemBlock, Open, step, without_blanks, blocks_from, at_end}
-use Rattle.ts_pem.specs.Pem.{and_then, inside, outside, end_block, label_of, end_line, is_end}
-use Rattle.ts_pem.specs.Pem.{is_begin, is_symbol, decode, blocks_of, lines}
+use Rattle.ts_pem.specs.declared.fault.PemFault.TheVariants.{NoEnd, NoBegin, OtherEnd, NotBase64, OutOfMemory}
+use Rattle.ts_pem.specs.Pem.{Reading, PemBlock, Open, without_blanks, blocks_from}
+use Rattle.ts_pem.specs.Pem.{label_of, end_line, is_end}
+use Rattle.ts_pem.specs.Pem.{is_begin, is_stray, is_symbol, decode, blocks_of, lines}
 use Rattle.ts_pem.specs.Files.{Gives}
-use Rattle.ts_pem.specs.Blocks.{AreBlocks, IsFirst, IsOutside, IsInside, base64_of}
+use Rattle.ts_pem.specs.Blocks.{AreBlocks, IsOutside, IsInside, base64_of}
 use Rattle.ts_pem.proofs.Symbols.{not_own_end, not_end, not_begin}
 
 -- the reading outside of all blocks, and within one
@@ -26,10 +26,7 @@ over_one : (n : ℕ) (line : List ℕ) (rest : List (List ℕ)) (done : List Pem
     → blocks_from n (line ∷ rest) (out_of done) ≡ blocks_from (n + 1) rest (out_of done)
 unfolding blocks_from
 over_one n line rest done none =
-    ap (λ (o : Option Label). blocks_from (n + 1) rest (record {
-      blocks = done;
-      open_block = option_map (λ label. record { label = label; line = n; body = [] }) o;
-    })) none
+    rw (none.0, none.1) refl
 
 -- a line of base64 is put behind those before
 take_one : (n : ℕ) (line : List ℕ) (rest : List (List ℕ)) (done : List PemBlock) (o : Open)
@@ -47,10 +44,7 @@ begins_one : (n : ℕ) (line : List ℕ) (rest : List (List ℕ)) (done : List P
     ≡ blocks_from (n + 1) rest (within done (record { label = label; line = n; body = [] }))
 unfolding blocks_from
 begins_one n line rest done label is =
-    ap (λ (o : Option Label). blocks_from (n + 1) rest (record {
-      blocks = done;
-      open_block = option_map (λ label. record { label = label; line = n; body = [] }) o;
-    })) is
+    rw is refl
 
 ends_one : (n : ℕ) (line : List ℕ) (rest : List (List ℕ)) (done : List PemBlock) (o : Open)
     (octets : List ℕ) → bytes_eq (without_blanks line) (end_line o.label) ≡ true
@@ -150,14 +144,25 @@ passed line lines (block ∷ blocks) none h = (
   h.2,
 )
 
+-- a line that ends a block where none is open is a fault
+no_begin : (n : ℕ) (line : List ℕ) (rest : List (List ℕ)) (done : List PemBlock) → label_of (without_blanks line) ≡ None
+    → is_stray (without_blanks line) ≡ true → blocks_from n (line ∷ rest) (out_of done) ≡ Err (NoBegin n)
+unfolding blocks_from
+no_begin n line rest done none stray = rw (none, stray) refl
+
+err_ok : (r : Result (List PemBlock) PemFault) (fault : PemFault) (all : List PemBlock)
+    → r ≡ Err fault → r ≡ Ok all → ⊥
+err_ok r fault all e f = cc
+
 out_case : (line : List ℕ) (lines : List (List ℕ)) → Out lines → In lines → (n : ℕ)
     (done all : List PemBlock) → blocks_from n (line ∷ lines) (out_of done) ≡ Ok all
-    → (o : Option Label) → label_of (without_blanks line) ≡ o
+    → (o : Option Label) (stray : Bool) → label_of (without_blanks line) ≡ o → is_stray (without_blanks line) ≡ stray
     → (blocks : List PemBlock) × (all ≡ done ++ blocks) × AreBlocks (line ∷ lines) blocks
-out_case line lines out in' n done all e None is =
-    let h = out (n + 1) done all (sym (over_one n line lines done is) ∙ e) in
-    (h.0, h.1, passed line lines h.0 is h.2)
-out_case line lines out in' n done all e (Some label) is =
+out_case line lines out in' n done all e None true is stray = absurd (err_ok _ _ all (no_begin n line lines done is stray) e)
+out_case line lines out in' n done all e None false is stray =
+    let h = out (n + 1) done all (sym (over_one n line lines done (is, stray)) ∙ e) in
+    (h.0, h.1, passed line lines h.0 (is, stray) h.2)
+out_case line lines out in' n done all e (Some label) any is stray =
     let o : Open = record { label = label; line = n; body = [] } in
     let h = in' (n + 1) done o all (sym (begins_one n line lines done label is) ∙ e) in (
       record { label = label; octets = h.octets } ∷ h.blocks,
@@ -179,10 +184,6 @@ out_case line lines out in' n done all e (Some label) is =
         h.are_blocks,
       ),
     )
-
-err_ok : (r : Result (List PemBlock) PemFault) (fault : PemFault) (all : List PemBlock)
-    → r ≡ Err fault → r ≡ Ok all → ⊥
-err_ok r fault all e f = cc
 
 -- a block that ends with no base64 is a fault
 not_decoded : (n : ℕ) (line : List ℕ) (rest : List (List ℕ)) (done : List PemBlock) (o : Open)
@@ -255,7 +256,7 @@ claims [] = (
 )
 claims (line ∷ lines) =
     let h = claims lines in (
-      λ n done all e. out_case line lines h.0 h.1 n done all e (label_of (without_blanks line)) refl,
+      λ n done all e. out_case line lines h.0 h.1 n done all e (label_of (without_blanks line)) (is_stray (without_blanks line)) refl refl,
       λ n done o all e. in_case line lines h.0 h.1 n done o all e
           (bytes_eq (without_blanks line) (end_line o.label)) (list_all is_symbol (without_blanks line))
           (decode o.body) refl refl refl,
@@ -281,5 +282,6 @@ only_of view (Ok v) text h blocks all =
     let same : Ok (view v) ≡ Ok blocks = sym h ∙ e in cc
 only_of view (Err OutOfMemory) text h blocks all = refl
 only_of view (Err (NoEnd n)) text h blocks all = absurd (err_ok _ _ _ h (are_read blocks (lines text) 1 [] all))
+only_of view (Err (NoBegin n)) text h blocks all = absurd (err_ok _ _ _ h (are_read blocks (lines text) 1 [] all))
 only_of view (Err (OtherEnd n)) text h blocks all = absurd (err_ok _ _ _ h (are_read blocks (lines text) 1 [] all))
 only_of view (Err (NotBase64 n)) text h blocks all = absurd (err_ok _ _ _ h (are_read blocks (lines text) 1 [] all))

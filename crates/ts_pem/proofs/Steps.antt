@@ -2,7 +2,7 @@
 use Rattle.std.proofs.Common.{◌≡◌, ℕ, ◌+◌, List, [], ◌∷◌, refl, ap, sym, ◌∙◌}
 use Rattle.std.specs.Prelude.{Result, Ok, Err}
 use Rattle.ts_pem.specs.declared.fault.PemFault.{PemFault}
-use Rattle.ts_pem.specs.declared.fault.PemFault.TheVariants.{NoEnd, OtherEnd, NotBase64, OutOfMemory}
+use Rattle.ts_pem.specs.declared.fault.PemFault.TheVariants.{NoEnd, NoBegin, OtherEnd, NotBase64, OutOfMemory}
 use Rattle.ts_pem.specs.Pem.{Reading, PemBlock, step, without_blanks, blocks_from, at_end, and_then}
 use Rattle.ts_pem.specs.Files.{Gives}
 
@@ -15,6 +15,7 @@ pub Gives-fault : {X Y Z W : Type 0} (view : X → Y) (other : Z → W) (fault :
     (s : Result Y PemFault) (t : Result W PemFault)
     → (s ≡ Err fault → t ≡ Err fault) → Gives view (Err fault) s → Gives other (Err fault) t
 Gives-fault view other (NoEnd line) s t passes given = passes given
+Gives-fault view other (NoBegin line) s t passes given = passes given
 Gives-fault view other (OtherEnd line) s t passes given = passes given
 Gives-fault view other (NotBase64 line) s t passes given = passes given
 Gives-fault view other OutOfMemory s t passes given = tt

@@ -1,12 +1,13 @@
 -- What the blocks of a text are (RFC 7468 2, 3), as a relation between lines and blocks.
-use Rattle.std.specs.Prelude.{◌≡◌, ℕ, true, List, [], ◌∷◌, ◌++◌, Some, None}
+use Rattle.std.specs.Prelude.{◌≡◌, ℕ, true, false, List, [], ◌∷◌, ◌++◌, Some, None}
 use Rattle.std.specs.List.{list_all, flat_map, AllByRecursion}
 use Rattle.std.specs.Str.{bytes_eq}
-use Rattle.ts_pem.specs.Pem.{PemBlock, without_blanks, label_of, end_line, is_symbol, decode}
+use Rattle.ts_pem.specs.Pem.{PemBlock, without_blanks, label_of, end_line, is_stray, is_symbol, decode}
 
--- a line that begins no block which is read
+-- a line that begins no block which is read, and ends none
 abbrev pub IsOutside : List ℕ → Type 0
-IsOutside line = label_of (without_blanks line) ≡ None
+IsOutside line =
+    (label_of (without_blanks line) ≡ None) × (is_stray (without_blanks line) ≡ false)
 
 -- a line of base64
 abbrev pub IsInside : List ℕ → Type 0

@@ -1,15 +1,15 @@
 -- Textual encodings (RFC 7468): the blocks of certificates and of CRLs in a text, line by line.
 use Rattle.std.specs.Prelude.{ℕ, ◌+◌, ◌==◌, ◌&&◌, ◌||◌, nat_le, nat_eq, Bool}
 use Rattle.std.specs.Prelude.{if◌then◌else◌, List, [], ◌∷◌, ◌++◌, codes, Option, Some, None}
-use Rattle.std.specs.Prelude.{option_map, Result, Ok, Err}
-use Rattle.std.specs.List.{slice_split, starts_with, list_all}
+use Rattle.std.specs.Prelude.{Result, Ok, Err}
+use Rattle.std.specs.List.{ends_with, slice_split, starts_with, list_all}
 use Rattle.std.specs.Str.{bytes_eq}
 use Rattle.base64.specs.GeneralPurpose.{decoded_of}
 use Rattle.base64.specs.Engines.{standard}
 use Rattle.ts_pem.specs.declared.block.Label.{Label}
 use Rattle.ts_pem.specs.declared.block.Label.TheVariants.{Certificate, Crl}
 use Rattle.ts_pem.specs.declared.fault.PemFault.{PemFault}
-use Rattle.ts_pem.specs.declared.fault.PemFault.TheVariants.{NoEnd, OtherEnd, NotBase64}
+use Rattle.ts_pem.specs.declared.fault.PemFault.TheVariants.{NoEnd, NoBegin, OtherEnd, NotBase64}
 
 -- ---- lines
 
@@ -58,6 +58,10 @@ is_begin line = starts_with nat_eq line (codes "-----BEGIN ")
 
 abbrev pub is_end : List ℕ → Bool
 is_end line = starts_with nat_eq line (codes "-----END ")
+
+-- a line ends with the end of a block that is read, whatever stands before it
+abbrev pub is_stray : List ℕ → Bool
+is_stray line = ends_with nat_eq line (end_line Certificate) || ends_with nat_eq line (end_line Crl)
 
 -- ---- base64 (RFC 4648 4)
 
@@ -113,16 +117,20 @@ inside n blocks o line =
     })
     else Err (NotBase64 n)
 
--- line n outside of all blocks: it begins one, or it does not count
-abbrev pub outside : ℕ → List PemBlock → List ℕ → Reading
-outside n blocks line = record {
+-- Line n outside of all blocks begins the one of this label; or it does not count, unless it ends
+-- one that began nowhere: its begin was written otherwise, or is not there, and the certificate
+-- would be missed.
+abbrev pub outside : ℕ → List PemBlock → List ℕ → Option Label → Result Reading PemFault
+outside n blocks line (Some label) = Ok (record {
   blocks = blocks;
-  open_block = option_map (λ label. record { label = label; line = n; body = [] }) (label_of line);
-}
+  open_block = Some (record { label = label; line = n; body = [] });
+})
+outside n blocks line None = if is_stray line then Err (NoBegin n)
+    else Ok (record { blocks = blocks; open_block = None })
 
 -- line n
 abbrev pub step : ℕ → List ℕ → List PemBlock → Option Open → Result Reading PemFault
-step n line blocks None = Ok (outside n blocks line)
+step n line blocks None = outside n blocks line (label_of line)
 step n line blocks (Some o) = inside n blocks o line
 
 -- at the end of the text no block may be open

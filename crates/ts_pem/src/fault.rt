@@ -11,6 +11,9 @@ use std::{error, fmt};
 pub enum PemFault {
     /// The block that begins at this line has no end.
     NoEnd(usize),
+    /// This line ends with the end of a block, and none is open: its begin is not there, or is no
+    /// line of its own.
+    NoBegin(usize),
     /// This line is the end of another label than that of the block in which it stands.
     OtherEnd(usize),
     /// This line of a block has an octet that base64 does not use; or it ends a block whose lines
@@ -24,6 +27,10 @@ impl fmt::Display for PemFault {
     fn fmt<W: fmt::Write>(&self, f: &mut fmt::Formatter<W>) -> fmt::Result {
         match *self {
             PemFault::NoEnd(line) => write!(f, "line {line}: the block has no end"),
+            PemFault::NoBegin(line) => write!(
+                f,
+                "line {line}: the end of a block that has no begin"
+            ),
             PemFault::OtherEnd(line) => write!(f, "line {line}: the end of another label"),
             PemFault::NotBase64(line) => write!(f, "line {line}: no base64"),
             PemFault::OutOfMemory => write!(f, "out of memory"),

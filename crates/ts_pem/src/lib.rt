@@ -11,13 +11,14 @@
 //! `-----BEGIN X509 CRL-----` begins a block, and the line `-----END` of that label ends it. The
 //! lines between are base64 of the standard alphabet, together with padding, however they are cut.
 //! Other lines outside of these blocks do not count: text around them, blocks of keys and of other
-//! labels (`TRUSTED CERTIFICATE` and `X509 CERTIFICATE` among them). All is said in `specs/Pem`,
-//! line by line.
+//! labels (`TRUSTED CERTIFICATE` and `X509 CERTIFICATE` among them). But one that ends with the end
+//! of a block is a fault: where a begin is indented, quoted, behind a mark of the octets' order or
+//! a dash short, no certificate is passed over in silence. All is said in `specs/Pem`, line by line.
 //!
 //! - [`read_blocks`]: the blocks of the text, in order (`found`); they are those of the definition,
 //!   or its first fault with the number of the line, or memory was refused (`exact`, `Gives`):
 //!   `NoEnd`, the line that begins a block that has no end, at the end of the text or where another
-//!   block begins; `OtherEnd`, a line that ends another label; `NotBase64`, a line that has an
+//!   block begins; `NoBegin`, the line that ends a block where none is open; `OtherEnd`, a line that ends another label; `NotBase64`, a line that has an
 //!   octet which base64 does not use, or the end of a block whose lines together are no base64. A
 //!   text without a block has none, and no fault.
 //! - [`is_pem`]: true exactly where a line begins with `-----BEGIN `, of whatever label.

@@ -5,7 +5,7 @@ ghost use Rattle.std.specs.List.{list_all, position};
 ghost use Rattle.std.specs.Str.{bytes_eq};
 ghost use Rattle.ts_pem.specs.Pem.{lines, without_blanks, is_blank, is_begin, is_end, is_symbol};
 ghost use Rattle.ts_pem.specs.Pem.{label_of};
-ghost use Rattle.ts_pem.specs.Pem.{end_line, is_line_feed};
+ghost use Rattle.ts_pem.specs.Pem.{end_line, is_line_feed, is_stray};
 ghost use Rattle.ts_pem.specs.inside.Lines.{rest_of, IsShorter};
 
 use crate::block::Label;
@@ -92,6 +92,13 @@ pub(crate) fn is_end(line: &[u8]) -> bool
     ensures { result ≡ is_end line.now }
 {
     line.starts_with(b"-----END ")
+}
+
+/// Whether a line ends with the end of a block that is read, whatever stands before it.
+pub(crate) fn is_stray(line: &[u8]) -> bool
+    ensures { result ≡ is_stray line.now }
+{
+    line.ends_with(END_CERTIFICATE) || line.ends_with(END_CRL)
 }
 
 /// Whether an octet is one that base64 uses.

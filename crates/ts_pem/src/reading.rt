@@ -5,11 +5,11 @@ ghost use Rattle.ts_pem.specs.declared.fault.PemFault.TheVariants.{OutOfMemory};
 ghost use Rattle.ts_pem.specs.Blocks.{AreBlocks};
 ghost use Rattle.ts_pem.specs.Files.{Gives, block_in};
 ghost use Rattle.ts_pem.specs.Pem.{at_end, at_start, blocks_of, decode, end_block, inside, outside};
-ghost use Rattle.ts_pem.specs.Pem.{PemBlock, lines, step};
+ghost use Rattle.ts_pem.specs.Pem.{PemBlock, label_of as label_in, lines, step};
 
 use crate::block::{Block, Label};
 use crate::fault::PemFault;
-use crate::line::{ends, first_line, is_base64, is_begin, is_end, label_of, trim};
+use crate::line::{ends, first_line, is_base64, is_begin, is_end, is_stray, label_of, trim};
 use base64::DecodeAllocError;
 use base64::engine::general_purpose::STANDARD;
 use std::alloc::{AllocError, Global};
@@ -84,7 +84,7 @@ impl Reading {
             current,
         } = self;
         match current {
-            None => Ok(begin(alloc, blocks, number, line)),
+            None => begin(alloc, blocks, number, line),
             Some(current) => within(alloc, blocks, current, number, line),
         }
     }
@@ -106,8 +106,9 @@ impl Reading {
 }
 
 /// A line outside of all blocks.
-fn begin(alloc: Global, blocks: Vec<Block>, number: usize, line: &[u8]) -> Reading
-    ensures { result ≡ outside number (map block_in blocks.items) line.now }
+fn begin(alloc: Global, blocks: Vec<Block>, number: usize, line: &[u8]) -> Result<Reading, PemFault>
+    ensures { Gives (λ r. r) result
+        (outside number (map block_in blocks.items) line.now (label_in line.now)) }
 {
     let current = match label_of(line) {
         Some(label) => Some(OpenBlock {
@@ -115,13 +116,14 @@ fn begin(alloc: Global, blocks: Vec<Block>, number: usize, line: &[u8]) -> Readi
             line: number,
             body: Vec::new(alloc),
         }),
+        None if is_stray(line) => return Err(PemFault::NoBegin(number)),
         None => None,
     };
-    Reading {
+    Ok(Reading {
         alloc,
         blocks,
         current,
-    }
+    })
 }
 
 /// A line within a block.

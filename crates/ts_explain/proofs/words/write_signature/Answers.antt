@@ -14,7 +14,7 @@ returns-in_ok-text-in-Some c =
     (λ last.
     two_parts c.args.line.now _ _ _ _ c.in_ok-text-in-Some.ensures last
     ∙ ap (λ w. c.args.line.now ++ w)
-    (ap (λ n. codes "is not signed by the key of its issuer " ++ name_text n) c.issuer.ensures
+    (ap (λ n. codes "is not signed by the key above it, or that key is of a kind not checked here; its issuer is " ++ name_text n) c.issuer.ensures
     ∙ ap (λ a. signature_words a (cert_in c.args.cert.now))
     (sym c.in-Some.is ∙ (c.algorithm_named.ensures ∙ ap (λ a. algorithm_named a.whole) c.signature_algorithm.ensures))))
     c.write_name.ensures
