@@ -2,14 +2,14 @@
 
 use std::alloc::{AllocError, Global};
 use std::io::Read;
-use std::net::{Shutdown, TcpListener};
+use std::net::TcpListener;
 use std::test::Fail;
 use ts_answer::Answers;
 use ts_command::Command;
 use ts_disk::MemDisk;
 use ts_node::Node;
 use ts_record::Record;
-use ts_serve::{ServeFault, Server, connect, listen, set_up, write_octets};
+use ts_serve::{ServeFault, Server, TimedStream, listen, write_octets};
 use ts_sig::DigestCheck;
 
 /// The request Status, and the answer Prefix 0.
@@ -55,12 +55,11 @@ fn a_connection_is_served(rt: HostRuntime) -> Result<(), Fail> {
     let listener = TcpListener::bind(&rt, "127.0.0.1:0")?;
     let address = listener.local_addr()?;
     let address = format!(in alloc; "{address}")?;
-    let Some(mut stream) = connect(&rt, address.as_str()) else {
+    let Some(mut stream) = TimedStream::connect(&rt, address.as_str(), u64::MAX) else {
         panic!(&rt; "no connection");
     };
-    set_up(&stream)?;
     write_octets(&mut stream, STATUS)?;
-    stream.shutdown(Shutdown::Write)?;
+    stream.end_writing()?;
     assert_eq!(rt; listen_once(alloc, &listener), Ok(()));
     let mut answer = Vec::new(alloc);
     let _count = stream.read_to_end(&mut answer)?;

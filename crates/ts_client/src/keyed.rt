@@ -1,15 +1,16 @@
 //! A node as a client reaches it: with a key, or without one.
 
-ghost use Rattle.std.specs.Prelude.{◌≤◌, IfOk};
+ghost use Rattle.std.specs.Prelude.{◌≤◌, IfOk, length};
 
 use std::alloc::Global;
 use std::io::{ErrorKind, Read, Write};
-use std::net::{Net, OpenStream, Shutdown};
+use std::net::Net;
 use std::random::RandomSource;
+use std::rt::Clock;
 use ts_access::{EntranceFault, Key, Visitor};
 use ts_guard::MAX_CONTENT;
 use ts_keyring::draw;
-use ts_serve::{Peer, READ_LIMIT, ServeFault, TcpPeer, connect, set_up, write_octets};
+use ts_serve::{Peer, READ_LIMIT, ServeFault, TcpPeer, TimedStream, room_for, write_octets};
 use ts_wire::FrameFault;
 
 /// The most octets that one read takes.
@@ -20,16 +21,18 @@ const GREETING_READS: u32 = 64;
 
 /// The node at an address, which is shown a key. Each exchange is a connection of its own.
 #[derive(Drop)]
-pub struct KeyedPeer<'a, N: Net + RandomSource> {
+pub struct KeyedPeer<'a, N: Net + Clock + RandomSource> {
     alloc: Global,
     net: &'a N,
     address: String,
     key: Key,
+    /// How many milliseconds an exchange takes at most.
+    most: u64,
 }
 
 /// A node as a client reaches it.
 #[derive(Drop)]
-pub enum ReachedNode<'a, N: Net + RandomSource> {
+pub enum ReachedNode<'a, N: Net + Clock + RandomSource> {
     /// Without a key.
     Open(TcpPeer<'a, N>),
     /// With a key.
@@ -56,7 +59,7 @@ fn read_some<S: Read>(stream: &mut S, buffer: &mut [u8; PIECE]) -> Result<usize,
             Err(_) => return Err(ServeFault::Read),
         }
     }
-    Err(ServeFault::ReadLimit)
+    Err(ServeFault::Read)
 }
 
 /// Reads until the challenge has come.
@@ -110,15 +113,22 @@ fn open_all(visitor: &mut Visitor, out: &mut Vec<u8>) -> Result<(), ServeFault> 
     Ok(())
 }
 
-/// All that is opened of what comes until the other end has closed.
+/// All that is opened of what comes until the other end has closed, which is at most so many
+/// octets. `ReadLimit` where it is more: nothing is read after the octets that exceed it.
 fn read_opened<S: Read>(
     alloc: Global,
     stream: &mut S,
     visitor: &mut Visitor,
     buffer: &mut [u8; PIECE],
-) -> Result<Vec<u8>, ServeFault> {
+    most: usize,
+) -> Result<Vec<u8>, ServeFault>
+    ensures { IfOk result (λ octets. length octets.items ≤ most) }
+{
     let mut out = Vec::new(alloc);
-    for _read in 0..READ_LIMIT {
+    for _read in 0..u64::MAX {
+        if most < out.len() {
+            return Err(ServeFault::ReadLimit);
+        }
         let count = read_some(stream, buffer)?;
         if count == 0 {
             return Ok(out);
@@ -126,37 +136,41 @@ fn read_opened<S: Read>(
         visitor.push(&buffer[..count])?;
         open_all(visitor, &mut out)?;
     }
-    Err(ServeFault::ReadLimit)
+    Err(ServeFault::Read)
 }
 
-impl<N: Net + RandomSource> Peer for KeyedPeer<'_, N> {
+impl<N: Net + Clock + RandomSource> Peer for KeyedPeer<'_, N> {
     ghost is_ready = { λ _. Unit {0} };
 
     /// As a `TcpPeer`; `Cut` where the node ends the connection before it sends a challenge;
     /// `Frame` where it wants no key; `Read` where a record is not one of its key.
-    fn exchange(&mut self, octets: &[u8]) -> Result<Vec<u8>, ServeFault> {
+    fn exchange(&mut self, octets: &[u8], frames: u16) -> Result<Vec<u8>, ServeFault> {
         let Some(nonce) = draw(self.net) else {
             return Err(ServeFault::Read);
         };
-        let Some(mut stream) = connect(self.net, self.address.as_str()) else {
+        let address = self.address.as_str();
+        let Some(mut stream) = TimedStream::connect(self.net, address, self.most) else {
             return Err(ServeFault::Write);
         };
-        if set_up(&stream).is_err() {
-            return Err(ServeFault::Write);
-        }
         let mut buffer = [0; PIECE];
         let mut visitor = Visitor::new(self.alloc, self.key.id, self.key.secret, nonce);
         write_octets(&mut stream, &visitor.hello())?;
         meet(&mut stream, &mut visitor, &mut buffer)?;
         write_sealed(self.alloc, &mut stream, &mut visitor, octets)?;
-        if stream.shutdown(Shutdown::Write).is_err() {
+        if stream.end_writing().is_err() {
             return Err(ServeFault::Write);
         }
-        read_opened(self.alloc, &mut stream, &mut visitor, &mut buffer)
+        read_opened(
+            self.alloc,
+            &mut stream,
+            &mut visitor,
+            &mut buffer,
+            room_for(frames),
+        )
     }
 }
 
-impl<'a, N: Net + RandomSource> ReachedNode<'a, N> {
+impl<'a, N: Net + Clock + RandomSource> ReachedNode<'a, N> {
     /// The node at this address, which is shown this key. No connection is made yet.
     pub fn new(alloc: Global, net: &'a N, address: String, key: Option<Key>) -> ReachedNode<'a, N> {
         match key {
@@ -166,18 +180,27 @@ impl<'a, N: Net + RandomSource> ReachedNode<'a, N> {
                 net,
                 address,
                 key,
+                most: u64::MAX,
             }),
+        }
+    }
+
+    /// From now on an exchange takes at most so many milliseconds, as of a `TcpPeer`.
+    pub fn limit(&mut self, most: u64) {
+        match self {
+            ReachedNode::Open(peer) => peer.limit(most),
+            ReachedNode::Keyed(peer) => peer.most = most,
         }
     }
 }
 
-impl<N: Net + RandomSource> Peer for ReachedNode<'_, N> {
+impl<N: Net + Clock + RandomSource> Peer for ReachedNode<'_, N> {
     ghost is_ready = { λ _. Unit {0} };
 
-    fn exchange(&mut self, octets: &[u8]) -> Result<Vec<u8>, ServeFault> {
+    fn exchange(&mut self, octets: &[u8], frames: u16) -> Result<Vec<u8>, ServeFault> {
         match self {
-            ReachedNode::Open(peer) => peer.exchange(octets),
-            ReachedNode::Keyed(peer) => peer.exchange(octets),
+            ReachedNode::Open(peer) => peer.exchange(octets, frames),
+            ReachedNode::Keyed(peer) => peer.exchange(octets, frames),
         }
     }
 }

@@ -6,7 +6,7 @@ use std::alloc::Global;
 use std::io::Print;
 use std::net::Net;
 use std::random::RandomSource;
-use std::rt::Files;
+use std::rt::{Clock, Files};
 use ts_cli::Reach;
 use ts_exchange::{Ending, PageWalk, Rows};
 use ts_files::{TaskFault, put, say};
@@ -130,7 +130,7 @@ fn say_head(rt: &impl Print, alloc: Global, kind: Rows, page: &Page) -> Result<(
 ///
 /// Those of the exchange; the node's; `Field` where a row is none.
 pub(crate) fn print_rows(
-    rt: &(impl AllocGlobal + Files + Net + RandomSource + Print + Eprint),
+    rt: &(impl AllocGlobal + Files + Net + Clock + RandomSource + Print + Eprint),
     reach: &Reach,
     mut walk: PageWalk,
     json: bool,
@@ -156,7 +156,7 @@ pub(crate) fn print_rows(
 
 /// All rows of what a server's store holds after the first k commands, or after all that the server
 /// knows.
-pub(crate) fn all_rows<R: Net + RandomSource>(
+pub(crate) fn all_rows<R: Net + Clock + RandomSource>(
     alloc: Global,
     server: &mut ReachedNode<'_, R>,
     k: Option<u32>,
@@ -203,7 +203,7 @@ fn print_signed(
 ///
 /// Those of [`print_rows`].
 pub(crate) fn print_diff(
-    rt: &(impl AllocGlobal + Files + Net + RandomSource + Print + Eprint),
+    rt: &(impl AllocGlobal + Files + Net + Clock + RandomSource + Print + Eprint),
     reach: &Reach,
     old: u32,
     new: u32,

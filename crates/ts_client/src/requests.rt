@@ -16,19 +16,21 @@ use ts_exchange::{
     Ending, Saying, answer_in, answer_to_question, ask_line, ending_by, request_octets,
     submit_saying,
 };
-use ts_files::{TaskFault, key_in, put, read_file, say};
+use ts_files::{TaskFault, key_in, put, read_file, say, say_other};
 use ts_question::{Answer, Question};
 use ts_render::explanation;
 use ts_serve::{Peer, TcpPeer, carry};
+use ts_show::Kind;
 use ts_wire::{Frame, FrameFault};
 
-/// Sends a request to a peer, and returns the frame that it is answered with.
+/// Sends a request to a peer, and returns the frame that it is answered with. It is answered with
+/// one, and no more is taken than one has at most.
 pub fn answer_of<P: Peer>(alloc: Global, peer: &mut P, request: &Frame) -> Result<Frame, TaskFault>
     requires { P.is_ready peer.old }
     ensures { P.is_ready peer.new }
 {
     let octets = request_octets(alloc, request)?;
-    let answered = peer.exchange(&octets)?;
+    let answered = peer.exchange(&octets, 1)?;
     Ok(answer_in(alloc, &answered)?)
 }
 
@@ -105,9 +107,24 @@ pub(crate) fn tell<T: Drop>(
             eprintln!(rt; "trustd: {address}: wants no key")
         }
         Err(TaskFault::Cut | TaskFault::Read | TaskFault::Write) if reach.key.is_some() =>
-            eprintln!(rt; "trustd: {address}: can't be reached, or does not know this key"),
+            eprintln!(rt;
+                "trustd: {address}: can't be reached, gives no answer, or does not know this key"
+            ),
         Err(TaskFault::Frame(FrameFault::Kind)) if reach.key.is_some() => {
             eprintln!(rt; "trustd: {address}: this key's role may not ask this")
+        }
+        Err(TaskFault::Read) => {
+            eprintln!(rt;
+                "trustd: {address}: gave no answer in time, or broke off: see that it runs"
+            )
+        }
+        Err(TaskFault::Unknown) => {
+            eprintln!(rt;
+                "trustd: {address}: gave no answer in time; the command may be chosen: try again"
+            )
+        }
+        Err(TaskFault::ReadLimit) => {
+            eprintln!(rt; "trustd: {address}: answers more than a node does: it is none")
         }
         _ => Ok(()),
     };
@@ -115,7 +132,7 @@ pub(crate) fn tell<T: Drop>(
 }
 
 /// The server that is reached so.
-pub(crate) fn server_at<'a, R: Files + Net + RandomSource + Eprint>(
+pub(crate) fn server_at<'a, R: Files + Net + Clock + RandomSource + Eprint>(
     rt: &'a R,
     alloc: Global,
     reach: &Reach,
@@ -136,7 +153,8 @@ fn submit_for<R: Files + Net + Clock + RandomSource + Eprint>(
 ) -> Result<Saying, TaskFault> {
     let mut server = server_at(rt, alloc, reach)?;
     let longest = Duration::from_secs(seconds as u64);
-    let answer = submit_and_wait(rt, alloc, &mut server, command, longest)?;
+    let answer = submit_and_wait(rt, alloc, &mut server, command, longest);
+    let answer = tell(rt, reach, answer)?;
     if !matches!(&answer, Frame::Settled { .. }) {
         drop(answer);
         let _ = eprintln!(rt; "trustd: not chosen within {seconds} seconds; it may be later");
@@ -145,6 +163,20 @@ fn submit_for<R: Files + Net + Clock + RandomSource + Eprint>(
     let said = submit_saying(alloc, &answer);
     drop(answer);
     Ok(said?)
+}
+
+/// The fault of a file that is no command or no question. Standard error says what it is, and what
+/// makes one.
+fn no_such(rt: &impl Eprint, alloc: Global, file: &str, wanted: Kind, octets: &[u8]) -> TaskFault {
+    if say_other(rt, alloc, file, wanted, octets).is_err() {
+        return TaskFault::Memory;
+    }
+    let word = match wanted {
+        Kind::Command => "command",
+        _ => "question",
+    };
+    let _ = eprintln!(rt; "trustd: {file}: is no {word}; `trustd {word}` makes one");
+    TaskFault::Field
 }
 
 /// Submits the command that a file holds to the server at an address, and prints what it is
@@ -163,14 +195,14 @@ pub fn submit_file(
     let alloc = rt.alloc();
     let octets = read_file(rt, alloc, file)?;
     let Some(command) = Command::read(alloc, &octets)? else {
-        return Err(TaskFault::Field);
+        return Err(no_such(rt, alloc, file, Kind::Command, &octets));
     };
     let said = if wait == 0 {
-        submit(alloc, &mut server_at(rt, alloc, reach)?, command)
+        let said = submit(alloc, &mut server_at(rt, alloc, reach)?, command);
+        tell(rt, reach, said)?
     } else {
-        submit_for(rt, alloc, reach, command, wait)
+        submit_for(rt, alloc, reach, command, wait)?
     };
-    let said = tell(rt, reach, said)?;
     say(rt, said.line.as_str())?;
     Ok(said.ended)
 }
@@ -195,7 +227,7 @@ fn explain_answer(
 ///
 /// `Field` where the file is not one whole question; those of the file and of [`ask`].
 pub fn ask_file(
-    rt: &(impl AllocGlobal + Files + Net + RandomSource + Print + Eprint),
+    rt: &(impl AllocGlobal + Files + Net + Clock + RandomSource + Print + Eprint),
     reach: &Reach,
     file: &str,
     check: bool,
@@ -204,7 +236,7 @@ pub fn ask_file(
     let alloc = rt.alloc();
     let octets = read_file(rt, alloc, file)?;
     let Some(question) = Question::read(alloc, &octets)? else {
-        return Err(TaskFault::Field);
+        return Err(no_such(rt, alloc, file, Kind::Question, &octets));
     };
     let answer = answer_from(alloc, &mut server_at(rt, alloc, reach)?, question);
     let answer = tell(rt, reach, answer)?;
@@ -222,7 +254,7 @@ pub fn ask_file(
 ///
 /// `Memory`, `Write`.
 pub fn carry_messages(
-    rt: &(impl AllocGlobal + Net + Print),
+    rt: &(impl AllocGlobal + Net + Clock + Print),
     addresses: &[String],
     rounds: u32,
 ) -> Result<(), TaskFault> {

@@ -6,7 +6,7 @@ use std::alloc::Global;
 use std::io::Print;
 use std::net::Net;
 use std::random::RandomSource;
-use std::rt::Files;
+use std::rt::{Clock, Files};
 use ts_cli::Reach;
 use ts_exchange::{Upkeep, upkeep_line};
 use ts_files::{TaskFault, say};
@@ -68,7 +68,7 @@ pub fn state_of<P: Peer>(alloc: Global, peer: &mut P) -> Result<String, TaskFaul
 ///
 /// Those of [`state_of`] and of the key's file; `Write`.
 pub fn print_state(
-    rt: &(impl AllocGlobal + Files + Net + RandomSource + Print + Eprint),
+    rt: &(impl AllocGlobal + Files + Net + Clock + RandomSource + Print + Eprint),
     reach: &Reach,
 ) -> Result<(), TaskFault> {
     let alloc = rt.alloc();
@@ -82,7 +82,7 @@ pub fn print_state(
 ///
 /// Those of [`tend`] and of the key's file; `Write`.
 pub fn tend_server(
-    rt: &(impl AllocGlobal + Files + Net + RandomSource + Print + Eprint),
+    rt: &(impl AllocGlobal + Files + Net + Clock + RandomSource + Print + Eprint),
     reach: &Reach,
     upkeep: Upkeep,
 ) -> Result<(), TaskFault> {

@@ -14,6 +14,9 @@ use ts_wire::{Feed, FeedError, Frame, WriteError, write_frame};
 /// The frame Take.
 const TAKE: [u8; 6] = [0, 0, 0, 2, 2, 0x12];
 
+/// How many frames answer Take at most: the messages of an outbox, and their count.
+const GIVEN: u16 = MAX_WAITING as u16 + 1;
+
 /// The frames that octets are, if they are frames, one after another, and nothing else.
 fn frames_of(alloc: Global, octets: &[u8]) -> Result<Option<Vec<Frame>>, AllocError>
     ensures { IfOk result (λ found. IfSome found
@@ -94,7 +97,7 @@ fn take_from<P: Peer>(alloc: Global, peer: &mut P) -> Result<Vec<Frame>, AllocEr
     requires { P.is_ready peer.old }
     ensures { P.is_ready peer.new }
 {
-    if let Ok(answer) = peer.exchange(&TAKE) {
+    if let Ok(answer) = peer.exchange(&TAKE, GIVEN) {
         if let Some(mut frames) = frames_of(alloc, &answer)? {
             if is_given(&frames) {
                 drop(frames.pop());
@@ -137,7 +140,7 @@ fn deliver<P: Peer>(alloc: Global, peers: &mut [P], frame: &Frame) -> Result<boo
         Err(WriteError::Memory) => return Err(AllocError),
         Err(WriteError::Length) => return Ok(false),
     }
-    let Ok(answer) = peers[node - 1].exchange(&octets) else {
+    let Ok(answer) = peers[node - 1].exchange(&octets, 1) else {
         return Ok(false);
     };
     match frames_of(alloc, &answer)? {

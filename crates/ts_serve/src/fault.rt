@@ -14,7 +14,7 @@ pub enum ServeFault {
     Read,
     /// A write failed, or a connection was not made.
     Write,
-    /// The stream had not ended after 16,777,216 reads.
+    /// The stream had not ended after 16,777,216 reads; or more was answered than was asked for.
     ReadLimit,
     /// The stream ended within a frame.
     Cut,

@@ -40,6 +40,8 @@
 //!   than [`LONGEST_WAIT`] seconds loses its connection; no clause says so.
 //! - [`ServerPeer::exchange`](Peer::exchange): `served`: the answers are those of `serve` to the
 //!   whole stream.
+//! - [`read_all`]: `all`: what a reader gives; `room`: no more than may come; `longer`: none is
+//!   refused as too long that is not. [`room_for`]: how much frames have at most.
 //! - [`TcpPeer::exchange`](Peer::exchange), [`carry`]: they end, and each peer can be asked again;
 //!   what they carry and count is shown by rows of `tests/served`. Which frames `carry` takes for
 //!   what a peer gives, and which for an answer to a message, is exact (`is_given`,
@@ -55,9 +57,11 @@
 //! # Not promised
 //!
 //! Only tested: what `carry` and `TcpPeer` carry and count, and that calls with ample memory
-//! succeed (`tests/served`); what `listen` serves, on one connection (`test_serve`). Neither proved
-//! nor tested: that a connection of `listen` ends that is waited for longer than a minute, and what
-//! a socket gives or takes.
+//! succeed (`tests/served`); what `listen` serves, on one connection (`test_serve`); that a
+//! [`TimedStream`] ends in time (`test_serve`, `tools/stalls`): how long its next read may wait is
+//! exact, but no clause says what a clock or a socket does. Neither proved nor tested: that a
+//! connection of `listen` ends that is waited for longer than a minute, and what a socket gives or
+//! takes.
 #![tactic(auto)]
 
 mod answering;
@@ -72,14 +76,16 @@ mod replies;
 mod sending;
 mod server;
 mod serving;
+mod timed;
 
 pub use answering::{AnswerFault, is_request, refusal};
 pub use carrying::carry;
-pub use connection::{LONGEST_DIAL, LONGEST_WAIT, connect, set_up};
+pub use connection::{LONGEST_DIAL, LONGEST_WAIT};
 pub use fault::ServeFault;
 pub use listening::listen;
 pub use outbox::MAX_WAITING;
-pub use peer::{Peer, ServerPeer, TcpPeer};
+pub use peer::{Peer, ServerPeer, TcpPeer, read_all, room_for};
 pub use sending::write_octets;
 pub use server::Server;
 pub use serving::{READ_LIMIT, serve};
+pub use timed::TimedStream;

@@ -1,6 +1,7 @@
 //! Peers: what answers a stream of requests.
 
-ghost use Rattle.std.specs.Prelude.{◌≡◌, ◌++◌, List, ℕ, Some, [], IfOk, IfSome};
+ghost use Rattle.std.specs.Prelude.{◌≡◌, ◌++◌, ◌*◌, ◌<◌, ◌≤◌, List, ℕ, Some, [], length};
+ghost use Rattle.std.specs.Prelude.{IfErr, IfOk, IfSome};
 ghost use Rattle.ts_question.specs.Question.{StoreQuestion};
 ghost use Rattle.ts_node.specs.Machine.{store_of};
 ghost use Rattle.ts_node.specs.Node.{IsSound};
@@ -8,18 +9,20 @@ ghost use Rattle.ts_command.specs.Octets.{octets_of};
 ghost use Rattle.ts_serve.specs.Turn.{ServerTurn};
 ghost use Rattle.ts_serve.specs.Stream.{IsServedSomehow};
 
-use crate::connection::{connect, set_up};
 use crate::fault::ServeFault;
 use crate::sending::write_octets;
 use crate::server::Server;
-use crate::serving::{READ_LIMIT, serve};
+use crate::serving::serve;
+use crate::timed::TimedStream;
 use std::alloc::Global;
 use std::io::{ErrorKind, Read};
-use std::net::{Net, OpenStream, Shutdown};
+use std::net::Net;
+use std::rt::Clock;
 use ts_command::{Command, Outcome};
 use ts_disk::Disk;
 use ts_node::Machine;
 use ts_question::{Answer, Question};
+use ts_wire::MAX_LENGTH;
 
 /// The most octets that one read takes.
 const PIECE: usize = 8192;
@@ -29,12 +32,13 @@ pub trait Peer {
     /// The peer can be asked.
     ghost is_ready: { Self → Type 0 };
 
-    /// Hands a stream over, and returns all that it is answered.
+    /// Hands a stream over, and returns all that it is answered. A peer on a connection may answer
+    /// as many octets as so many frames have at most, and no more.
     ///
     /// # Errors
     ///
     /// What kept the stream from being handed over, or the answers from coming.
-    fn exchange(&mut self, octets: &[u8]) -> Result<Vec<u8>, ServeFault>
+    fn exchange(&mut self, octets: &[u8], frames: u16) -> Result<Vec<u8>, ServeFault>
         requires { is_ready self.old }
         ensures { is_ready self.new };
 }
@@ -42,10 +46,12 @@ pub trait Peer {
 /// The server at an address, a host's name or number, a colon and a port. Each exchange is a
 /// connection of its own.
 #[derive(Drop)]
-pub struct TcpPeer<'a, N: Net> {
+pub struct TcpPeer<'a, N: Net + Clock> {
     alloc: Global,
     net: &'a N,
     address: String,
+    /// How many milliseconds an exchange takes at most.
+    most: u64,
 }
 
 /// A server in memory. An exchange is answered with what the server writes.
@@ -55,53 +61,80 @@ pub struct ServerPeer<D: Disk, M> {
     server: Server<D, M>,
 }
 
-/// All that a reader gives, in at most `READ_LIMIT` reads.
-fn read_all<R: Read>(alloc: Global, reader: &mut R) -> Result<Vec<u8>, ServeFault>
-    ensures { IfOk result (λ octets. IfSome (R.remaining reader.old) (λ all. octets.items ≡ all)) }
+/// How many octets so many frames have at most: 8,388,612 each, with the four of its length.
+pub fn room_for(frames: u16) -> usize
+    ensures { result ≡ frames * 8388612 }
+{
+    usize::from(frames) * (MAX_LENGTH + 4)
+}
+
+/// All that a reader gives up to its end, which is at most so many octets. An interrupted read is
+/// made again.
+///
+/// # Errors
+///
+/// `ReadLimit` where the reader gives more: nothing is read after the octets that exceed it. `Read`
+/// where a read fails; `Memory`.
+pub fn read_all<R: Read>(alloc: Global, reader: &mut R, most: usize) -> Result<Vec<u8>, ServeFault>
+    // What the reader gives is all there, where it tells its octets.
+    ensures all { IfOk result (λ octets. IfSome (R.remaining reader.old)
+        (λ all. octets.items ≡ all)) }
+    ensures room { IfOk result (λ octets. length octets.items ≤ most) }
+    // No shorter answer is refused as too long.
+    ensures longer { IfErr result (λ fault. fault ≡ ServeFault.ReadLimit
+        → IfSome (R.remaining reader.old) (λ all. most < length all)) }
 {
     let mut octets = Vec::new(alloc);
     let mut buffer = [0; PIECE];
-    for _read in 0..READ_LIMIT {
+    for _read in 0..u64::MAX {
         match reader.read(&mut buffer) {
             Ok(0) => return Ok(octets),
+            Ok(count) if most - octets.len() < count => return Err(ServeFault::ReadLimit),
             Ok(count) => octets.extend_from_slice(&buffer[..count])?,
             Err(error) if error.kind() == ErrorKind::Interrupted => {}
             Err(_) => return Err(ServeFault::Read),
         }
     }
-    Err(ServeFault::ReadLimit)
+    Err(ServeFault::Read)
 }
 
-impl<'a, N: Net> TcpPeer<'a, N> {
+impl<'a, N: Net + Clock> TcpPeer<'a, N> {
     /// The server at this address. No connection is made yet.
     pub fn new(alloc: Global, net: &'a N, address: String) -> TcpPeer<'a, N> {
         TcpPeer {
             alloc,
             net,
             address,
+            most: u64::MAX,
         }
+    }
+
+    /// From now on an exchange takes at most so many milliseconds, and never longer than a
+    /// [`TimedStream`] does.
+    pub fn limit(&mut self, most: u64)
+        ensures { self.new ≡ record self.old { most = most } }
+    {
+        self.most = most;
     }
 }
 
-impl<N: Net> Peer for TcpPeer<'_, N> {
+impl<N: Net + Clock> Peer for TcpPeer<'_, N> {
     ghost is_ready = { λ _. Unit {0} };
 
     /// `Write` where the connection is not made within [`LONGEST_DIAL`](crate::LONGEST_DIAL)
-    /// seconds, or a write fails; `Read` and `ReadLimit` as the
-    /// answers are read; `Memory`. A read or write that waits longer than
-    /// [`LONGEST_WAIT`](crate::LONGEST_WAIT) seconds fails.
-    fn exchange(&mut self, octets: &[u8]) -> Result<Vec<u8>, ServeFault> {
-        let Some(mut stream) = connect(self.net, self.address.as_str()) else {
+    /// seconds, or a write fails; `Read` where a read fails, and `ReadLimit` where more is answered
+    /// than so many frames; `Memory`. A read or write fails where the exchange has no time left:
+    /// see [`TimedStream`].
+    fn exchange(&mut self, octets: &[u8], frames: u16) -> Result<Vec<u8>, ServeFault> {
+        let address = self.address.as_str();
+        let Some(mut stream) = TimedStream::connect(self.net, address, self.most) else {
             return Err(ServeFault::Write);
         };
-        if set_up(&stream).is_err() {
-            return Err(ServeFault::Write);
-        }
         write_octets(&mut stream, octets)?;
-        if stream.shutdown(Shutdown::Write).is_err() {
+        if stream.end_writing().is_err() {
             return Err(ServeFault::Write);
         }
-        read_all(self.alloc, &mut stream)
+        read_all(self.alloc, &mut stream, room_for(frames))
     }
 }
 
@@ -133,8 +166,9 @@ impl<D: Disk, M: Machine<Command, Outcome = Outcome, Question = Question, Answer
     ghost is_ready = { λ peer. IsSound D.state octets_of M.commands peer.server.node };
 
     /// `Memory` and `Write` where the server's answers find no memory. Another fault of the server
-    /// is seen in its answers alone, as through a connection.
-    fn exchange(&mut self, octets: &[u8]) -> Result<Vec<u8>, ServeFault>
+    /// is seen in its answers alone, as through a connection. The server's answers are taken as
+    /// they are: frames are not counted.
+    fn exchange(&mut self, octets: &[u8], _frames: u16) -> Result<Vec<u8>, ServeFault>
         requires { IsSound D.state octets_of M.commands self.old.server.node }
         ensures ready { IsSound D.state octets_of M.commands self.new.server.node }
         ensures served { IfOk result (λ answers. IsServedSomehow

@@ -4,8 +4,8 @@ use Rattle.std.specs.Io.KnownBytes.{Consumes, ReadConsumes}
 use Rattle.ts_serve.proofs.Whole.{read_to_end}
 use Rattle.ts_serve.proofs.peer.read_all.Goals as goal
 
-pub returns-in-Ok-eq0 : goal.returns-in-Ok-eq0
-returns-in-Ok-eq0 g c =
+pub returns-in-Ok-eq0-clause-all : goal.returns-in-Ok-eq0-clause-all
+returns-in-Ok-eq0-clause-all g c =
     let left = g.R.Read.remaining c.loop-read.reader in
     let now = g.R.Read.remaining c.read.new.self in
     let bytes = subst (λ r. ReadConsumes left now r c.read.new.buf) c.in-Ok-eq0.is c.read.ensures.bytes in
