@@ -1,14 +1,13 @@
 -- The question that a request asks.
 use Rattle.std.specs.Prelude.{◌≡◌, ◌≢◌, ◌⊎◌, ◌==◌, ◌&&◌, ℕ, ℤ, List, [], ◌∷◌, Bool, true, false}
-use Rattle.std.specs.Prelude.{Result, Ok, Err, map, is_some, if◌then◌else◌}
+use Rattle.std.specs.Prelude.{Result, Ok, Err, is_some, if◌then◌else◌}
 use Rattle.std.specs.Char.{is_ascii_whitespace}
 use Rattle.std.specs.Str.{IsUtf8}
-use Rattle.form_urlencoded.specs.Form.{raw_pairs}
 use Rattle.sha2.specs.Sha256.{sha256}
 use Rattle.ts_form.specs.Asking.{asked_in}
 use Rattle.ts_form.specs.Fields.{AddsCertificates, AreRefused, IsNothing, IsRefusedInAll, SetsAll}
-use Rattle.ts_form.specs.Pairs.{NamedValue, decode_pair}
-use Rattle.ts_form.specs.Said.{IsSaid}
+use Rattle.ts_form.specs.Pairs.{AreFew, AreMany, IsMany, NamedValue, pairs_of}
+use Rattle.ts_form.specs.Said.{IsLongText, IsSaid}
 use Rattle.ts_form.specs.declared.fault.FormFault.{FormFault}
 use Rattle.ts_form.specs.declared.fault.FormFault.TheVariants as faults
 use Rattle.ts_form.specs.declared.wanted.WantedFields.{WantedFields}
@@ -31,15 +30,19 @@ is_json (octet ∷ octets) =
 abbrev pub SaysJson : List ℕ → List NamedValue → Type 0
 SaysJson body pairs = IsUtf8 body × IsSaid body pairs
 
--- memory was refused, or the body is no object that says pairs
+-- memory was refused, or the body is an object with a name that no field has, or none that says
+-- pairs, or one that says too many
 abbrev pub SaysNoJson : List ℕ → FormFault → Type 0
 SaysNoJson body faults.Memory = Unit {0}
+SaysNoJson body faults.Name = IsUtf8 body × IsLongText body
+SaysNoJson body faults.Many = (pairs : List NamedValue) × SaysJson body pairs × AreMany pairs
 SaysNoJson body faults.Json = (pairs : List NamedValue) → ¬ (SaysJson body pairs)
 SaysNoJson body fault = ⊥
 
 -- an object of JSON says pairs, nothing says nothing, any other body is certificates
 abbrev pub SaysAs : Bool → List ℕ → WantedFields → WantedFields → Type 0
-SaysAs true body old new = (pairs : List NamedValue) × SaysJson body pairs × SetsAll pairs old new
+SaysAs true body old new = (pairs : List NamedValue) × SaysJson body pairs × AreFew pairs
+    × SetsAll pairs old new
 SaysAs false [] old new = new ≡ old
 SaysAs false (octet ∷ octets) old new = AddsCertificates (octet ∷ octets) old new
 
@@ -67,18 +70,19 @@ PairsRefused pairs fault =
 
 -- the pairs of a target's query
 abbrev pub pairs_in : List ℕ → List NamedValue
-pairs_in target = map decode_pair (raw_pairs (query_of target))
+pairs_in target = pairs_of (query_of target)
 
--- the query of a target, then a body
+-- the query of a target, which has few pairs, then a body
 abbrev pub Says : List ℕ → List ℕ → WantedFields → Type 0
-Says target body wanted = (mid : WantedFields) × SaysPairs (pairs_in target) mid
-    × SaysBody body mid wanted
+Says target body wanted = AreFew (pairs_in target)
+    × ((mid : WantedFields) × SaysPairs (pairs_in target) mid × SaysBody body mid wanted)
 
--- memory, or the query is refused, or the body behind it
+-- memory, or the query has too many pairs or one that is refused, or the body behind it is refused
 abbrev pub RequestRefused : List ℕ → List ℕ → FormFault → Type 0
 RequestRefused target body faults.Memory = Unit {0}
-RequestRefused target body fault = PairsRefused (pairs_in target) fault
-    ⊎ ((mid : WantedFields) × SaysPairs (pairs_in target) mid × BodyRefused body mid fault)
+RequestRefused target body fault = IsMany (pairs_in target) fault
+    ⊎ (PairsRefused (pairs_in target) fault
+    ⊎ ((mid : WantedFields) × SaysPairs (pairs_in target) mid × BodyRefused body mid fault))
 
 -- ---- the question
 

@@ -4,7 +4,8 @@ use Rattle.ts_form.specs.Names.{name_of}
 use Rattle.ts_form.specs.declared.field.Field.{Field}
 use Rattle.ts_form.specs.declared.field.Field.TheVariants as fields
 use Rattle.ts_form.specs.declared.fault.FormFault.{FormFault}
-use Rattle.ts_form.specs.declared.fault.FormFault.TheVariants.{Memory, Json, Name, Value, Twice}
+use Rattle.ts_form.specs.declared.fault.FormFault.TheVariants.{Memory, Json, Many, Name}
+use Rattle.ts_form.specs.declared.fault.FormFault.TheVariants.{Value, Twice}
 use Rattle.ts_api.specs.declared.asking.NoQuestion.{NoQuestion}
 use Rattle.ts_api.specs.declared.asking.NoQuestion.TheVariants.{Form, Limits}
 
@@ -27,6 +28,7 @@ abbrev pub fault_words : FormFault → List ℕ
 fault_words Memory = codes "memory was refused"
 fault_words Json =
     codes "the body is no JSON object of texts, numbers, flags and lists of texts"
+fault_words Many = codes "more than 256 fields are given"
 fault_words Name = field_words
 fault_words (Value field) = name_of field ++ (codes " is not " ++ wanted_of field)
 fault_words (Twice field) = name_of field ++ codes " is given twice"

@@ -2,7 +2,7 @@
 
 ghost use Rattle.std.specs.Prelude.{◌≡◌, IfOk, IfErr, OnOk, map};
 ghost use Rattle.sha2.specs.Sha256.{sha256};
-ghost use Rattle.ts_form.specs.Pairs.{pair_in};
+ghost use Rattle.ts_form.specs.Pairs.{AreFew, pair_in};
 ghost use Rattle.ts_question.specs.Question.{question_encoding};
 ghost use Rattle.ts_api.specs.Asking.{BodyRefused, IsAsked, IsAskedBy, IsAskedFrom};
 ghost use Rattle.ts_api.specs.Asking.{PairsRefused, RequestRefused, Says, SaysBody};
@@ -53,6 +53,7 @@ fn is_json(body: &[u8]) -> bool
 /// The pairs that the JSON object of a body says.
 fn object_pairs(alloc: Global, body: &[u8]) -> Result<Vec<Pair>, FormFault>
     ensures said { IfOk result (λ pairs. SaysJson body.now (map pair_in pairs.items)) }
+    ensures few { IfOk result (λ pairs. AreFew (map pair_in pairs.items)) }
     ensures unsaid { IfErr result (SaysNoJson body.now) }
 {
     let Ok(text) = str::from_utf8(body) else {

@@ -35,6 +35,7 @@ pub fn fault_text(alloc: Global, fault: FormFault) -> Result<String, AllocError>
             alloc,
             "the body is no JSON object of texts, numbers, flags and lists of texts",
         ),
+        FormFault::Many => String::from_str(alloc, "more than 256 fields are given"),
         FormFault::Name => String::from_str(
             alloc,
             "there are these fields: chain, at, k, hard, deltas, explicit, nomap, noany, \

@@ -1,10 +1,11 @@
 -- The pairs that a JSON object says (RFC 8259 section 4).
 use Rattle.std.specs.Prelude.{◌≡◌, ℕ, List, [], ◌∷◌, ◌++◌, true, false, Option, Some, None, codes}
+use Rattle.std.specs.Prelude.{Bool, ◌||◌, fold, length, nat_lt}
 use Rattle.std.specs.Fmt.{decimal}
 use Rattle.serde_json.specs.Data.{Data, null, boolean, number, unsigned, string, array, object}
 use Rattle.serde_json.specs.Data.{Items, no_items, item, Members, no_members, member}
 use Rattle.serde_json.specs.Read.{read}
-use Rattle.ts_form.specs.Pairs.{NamedValue}
+use Rattle.ts_form.specs.Pairs.{AreMany, NamedValue, with_pair}
 use Rattle.ts_form.specs.declared.fault.FormFault.{FormFault}
 use Rattle.ts_form.specs.declared.fault.FormFault.TheVariants as faults
 
@@ -46,18 +47,32 @@ abbrev pub object_said : Data → Option (List NamedValue)
 object_said (object members) = members_said members
 object_said other = None
 
--- the text is of an object that says these pairs
+-- the name of a member has more than 64 octets: no field has such a name
+unfoldable pub has_long_name : Members → Bool
+has_long_name no_members = false
+has_long_name (member name value members) = nat_lt 64 (length name) || has_long_name members
+
+abbrev pub is_long : Data → Bool
+is_long (object members) = has_long_name members
+is_long other = false
+
+-- the text is of an object with such a name
+abbrev pub IsLongText : List ℕ → Type 0
+IsLongText text = (value : Data) × (read text ≡ Some value) × (is_long value ≡ true)
+
+-- the text is of an object without, that says these pairs
 pub record IsSaid (text : List ℕ) (pairs : List NamedValue) : Type 0 where
   pub value : Data
   pub is_read : read text ≡ Some value
+  pub short : is_long value ≡ false
   pub said : object_said value ≡ Some pairs
 
--- what is said stands behind what was there
+-- what is said stands behind what was there, as far as so many pairs are taken
 pub record AppendsPairs (said : Option (List NamedValue)) (before after : List NamedValue) : Type 0
   where
     pub more : List NamedValue
     pub is : said ≡ Some more
-    pub behind : after ≡ before ++ more
+    pub behind : after ≡ fold with_pair before more
 
 -- memory was refused, or this says nothing
 abbrev pub IsUnsaid : Option (List NamedValue) → FormFault → Type 0
@@ -65,8 +80,17 @@ IsUnsaid said faults.Memory = Unit {0}
 IsUnsaid said faults.Json = said ≡ None
 IsUnsaid said fault = ⊥
 
--- memory was refused, or the text is of no object that says pairs
+-- memory was refused, or this says nothing, or too many pairs
+abbrev pub IsNotTaken : Option (List NamedValue) → FormFault → Type 0
+IsNotTaken said faults.Many =
+    (pairs : List NamedValue) × (said ≡ Some pairs) × AreMany pairs
+IsNotTaken said fault = IsUnsaid said fault
+
+-- memory was refused, or the text is of an object with a name that no field has; or of none that
+-- says pairs, or of one that says too many
 abbrev pub IsUnsaidText : List ℕ → FormFault → Type 0
 IsUnsaidText text faults.Memory = Unit {0}
+IsUnsaidText text faults.Name = IsLongText text
+IsUnsaidText text faults.Many = (pairs : List NamedValue) × IsSaid text pairs × AreMany pairs
 IsUnsaidText text faults.Json = (pairs : List NamedValue) → ¬ (IsSaid text pairs)
 IsUnsaidText text fault = ⊥

@@ -14,6 +14,8 @@ pub enum FormFault {
     /// The text is no JSON object, or a member of it is neither a text, a number, a flag, `null`
     /// nor a list of texts.
     Json,
+    /// There are more than 256 pairs.
+    Many,
     /// No field has this name.
     Name,
     /// The text is no value of this field.

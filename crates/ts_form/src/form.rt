@@ -1,10 +1,10 @@
 //! The pairs of a form.
 
-ghost use Rattle.std.specs.Prelude.{◌≡◌, IfOk, map};
-ghost use Rattle.form_urlencoded.specs.Form.{raw_pairs};
-ghost use Rattle.ts_form.specs.Pairs.{decode_pair, pair_in};
+ghost use Rattle.std.specs.Prelude.{◌≡◌, IfErr, IfOk, map};
+ghost use Rattle.ts_form.specs.Pairs.{AreFew, IsMany, decode_pair, pair_in, pairs_of};
 
-use crate::pair::Pair;
+use crate::fault::FormFault;
+use crate::pair::{MAX_PAIRS, Pair};
 use form_urlencoded::decode;
 use std::alloc::{AllocError, Global};
 
@@ -22,13 +22,17 @@ fn pair_of(alloc: Global, name: &[u8], value: &[u8]) -> Result<Pair, AllocError>
 ///
 /// # Errors
 ///
-/// Out of memory.
-pub fn form_pairs(alloc: Global, octets: &[u8]) -> Result<Vec<Pair>, AllocError>
-    ensures { IfOk result (λ pairs. map pair_in pairs.items
-        ≡ map decode_pair (raw_pairs octets.now)) }
+/// `Many` exactly where there are more than 256 pairs, of which no more are decoded then; `Memory`.
+pub fn form_pairs(alloc: Global, octets: &[u8]) -> Result<Vec<Pair>, FormFault>
+    ensures pairs { IfOk result (λ pairs. map pair_in pairs.items ≡ pairs_of octets.now) }
+    ensures few { IfOk result (λ _. AreFew (pairs_of octets.now)) }
+    ensures many { IfErr result (IsMany (pairs_of octets.now)) }
 {
     let mut pairs = Vec::new(alloc);
     for (name, value) in form_urlencoded::raw_pairs(octets) {
+        if pairs.len() == MAX_PAIRS {
+            return Err(FormFault::Many);
+        }
         pairs.push(pair_of(alloc, name, value)?)?;
     }
     Ok(pairs)

@@ -1,21 +1,28 @@
 //! The pairs that a JSON object says.
 
-ghost use Rattle.std.specs.Prelude.{◌≡◌, ◌++◌, ◌∷◌, [], Some, IfOk, IfErr, OnOk, map};
+ghost use Rattle.std.specs.Prelude.{◌≡◌, Some, IfOk, IfErr, OnOk, map};
 ghost use Rattle.serde_json.specs.View.{items_view, members_view, view};
-ghost use Rattle.ts_form.specs.Pairs.{pair_in};
+ghost use Rattle.ts_form.specs.Pairs.{AreFew, pair_in, with_pair};
 ghost use Rattle.ts_form.specs.Said.{IsSaid, AppendsPairs, items_said, members_said, object_said};
-ghost use Rattle.ts_form.specs.Said.{IsUnsaid, IsUnsaidText, value_said};
+ghost use Rattle.ts_form.specs.Said.{IsNotTaken, IsUnsaid, IsUnsaidText, has_long_name, is_long};
+ghost use Rattle.ts_form.specs.Said.{value_said};
 
 use crate::fault::FormFault;
-use crate::pair::Pair;
+use crate::pair::{MAX_PAIRS, Pair};
 use serde_json::{Map, Value};
 use std::alloc::{AllocError, Global};
 
-/// Puts a pair behind others.
+/// The most octets of a name that is looked at.
+const MAX_NAME: usize = 64;
+
+/// Puts a pair behind others, unless there are too many already.
 fn push(alloc: Global, pairs: &mut Vec<Pair>, name: &str, value: &str) -> Result<(), AllocError>
     ensures { OnOk result (map pair_in pairs.new.items
-        ≡ map pair_in pairs.old.items ++ ((name.now, value.now) ∷ [])) }
+        ≡ with_pair (map pair_in pairs.old.items) (name.now, value.now)) }
 {
+    if pairs.len() > MAX_PAIRS {
+        return Ok(());
+    }
     let name = String::from_str(alloc, name)?;
     let value = String::from_str(alloc, value)?;
     pairs.push(Pair { name, value })?;
@@ -70,24 +77,54 @@ fn push_member(
     }
 }
 
-/// The pairs that the members of an object say.
+/// The pairs that the members of an object say. All are read, so that it is known whether they
+/// say pairs, also where these are too many.
 fn members_pairs(alloc: Global, members: &Map<String, Value>) -> Result<Vec<Pair>, FormFault>
     ensures said { IfOk result (λ pairs. members_said (members_view members.now.entries)
         ≡ Some (map pair_in pairs.items)) }
-    ensures unsaid { IfErr result (IsUnsaid (members_said (members_view members.now.entries))) }
+    ensures few { IfOk result (λ pairs. AreFew (map pair_in pairs.items)) }
+    ensures unsaid { IfErr result
+        (IsNotTaken (members_said (members_view members.now.entries))) }
 {
     let mut pairs = Vec::new(alloc);
     for (name, value) in members.iter() {
         push_member(alloc, &mut pairs, name.as_str(), value)?;
     }
+    if pairs.len() > MAX_PAIRS {
+        return Err(FormFault::Many);
+    }
     Ok(pairs)
+}
+
+/// Whether the name of a member is longer than that of any field. It is copied for each text of a
+/// list.
+fn has_long_name(members: &Map<String, Value>) -> bool
+    ensures { result ≡ has_long_name (members_view members.now.entries) }
+{
+    for (name, _) in members.iter() {
+        if name.len() > MAX_NAME {
+            return true;
+        }
+    }
+    false
+}
+
+/// Whether a value is an object with such a name.
+fn is_long(value: &Value) -> bool
+    ensures { result ≡ is_long (view value.now) }
+{
+    match value {
+        Value::Object(members) => has_long_name(members),
+        _ => false,
+    }
 }
 
 /// The pairs that an object says.
 fn object_pairs(alloc: Global, value: &Value) -> Result<Vec<Pair>, FormFault>
     ensures said { IfOk result (λ pairs. object_said (view value.now)
         ≡ Some (map pair_in pairs.items)) }
-    ensures unsaid { IfErr result (IsUnsaid (object_said (view value.now))) }
+    ensures few { IfOk result (λ pairs. AreFew (map pair_in pairs.items)) }
+    ensures unsaid { IfErr result (IsNotTaken (object_said (view value.now))) }
 {
     match value {
         Value::Object(members) => {
@@ -104,9 +141,12 @@ fn object_pairs(alloc: Global, value: &Value) -> Result<Vec<Pair>, FormFault>
 ///
 /// # Errors
 ///
-/// `Json` exactly where the text is no such object; `Memory`.
+/// `Name` exactly where a name of the object has more than 64 octets, which no field's has; else
+/// `Json` where the text is no such object, and `Many` where it says more than 256 pairs, of which
+/// 257 are kept meanwhile; `Memory`.
 pub fn json_pairs(alloc: Global, text: &str) -> Result<Vec<Pair>, FormFault>
     ensures said { IfOk result (λ pairs. IsSaid text.now (map pair_in pairs.items)) }
+    ensures few { IfOk result (λ pairs. AreFew (map pair_in pairs.items)) }
     ensures unsaid { IfErr result (IsUnsaidText text.now) }
 {
     let value = match Value::from_str(alloc, text) {
@@ -114,6 +154,9 @@ pub fn json_pairs(alloc: Global, text: &str) -> Result<Vec<Pair>, FormFault>
         Err(error) if error.is_memory() => return Err(FormFault::Memory),
         Err(_) => return Err(FormFault::Json),
     };
+    if is_long(&value) {
+        return Err(FormFault::Name);
+    }
     let pairs = object_pairs(alloc, &value)?;
     Ok(pairs)
 }

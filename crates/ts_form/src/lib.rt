@@ -16,9 +16,11 @@
 //! once; of `at`, `k`, `purpose` and `anchor` a second one is refused. Each but a flag may be given
 //! as an empty text, which says nothing, since forms send such.
 //!
-//! - [`form_pairs`]: the pairs of `application/x-www-form-urlencoded` octets, decoded, in order.
+//! - [`form_pairs`]: the pairs of `application/x-www-form-urlencoded` octets, decoded, in order;
+//!   refused exactly where they are more than 256.
 //! - [`json_pairs`]: what a JSON object says (`specs/Said`): a pair for each text, number, `true`
-//!   and `false`, and of a list one for each text in it; nothing for `null`.
+//!   and `false`, and of a list one for each text in it; nothing for `null`; names of more than
+//!   64 octets and more than 256 pairs are refused.
 //! - [`WantedFields::add`]: a pair sets the field that it names (`specs/Fields`), or is refused,
 //!   for a fault that is so: no field has the name, the text is no value of it, it is given twice;
 //!   or memory.

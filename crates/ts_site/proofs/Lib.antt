@@ -3,3 +3,4 @@ mod ForRequests
 mod Asked
 mod Steps
 mod Begun
+mod Wanting

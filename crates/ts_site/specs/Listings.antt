@@ -2,9 +2,10 @@
 use Rattle.std.specs.Prelude.{◌≡◌, ◌⊎◌, ◌+◌, ◌++◌, ℕ, Bool, true, false, List, [], ◌∷◌}
 use Rattle.std.specs.Prelude.{Option, Some, None, Result, Ok, Err, codes, is_some, unwrap_or}
 use Rattle.std.specs.Fmt.{decimal}
-use Rattle.ts_form.specs.Pairs.{NamedValue}
+use Rattle.ts_form.specs.Pairs.{AreFew, AreMany, NamedValue}
 use Rattle.ts_form.specs.Rows.{IsRefusedInAll, SetsAll, no_rows}
 use Rattle.ts_form.specs.declared.fault.FormFault.{FormFault}
+use Rattle.ts_form.specs.declared.fault.FormFault.TheVariants.{Many}
 use Rattle.ts_form.specs.declared.rows.RowsWanted.{RowsWanted}
 use Rattle.ts_json.specs.Answer.{whole}
 use Rattle.ts_json.specs.Members.{NamedValue as Member, page_of}
@@ -39,10 +40,11 @@ rows_target false from = Store from
 abbrev pub rows_question : Bool → Option ℕ → ℕ → StoreQuestion
 rows_question log k from = record { terms = plain_terms k; target = rows_target log from }
 
--- what pairs want, or why they are refused
+-- what pairs want, or why they are refused: there are too many, or one is refused
 abbrev pub AreWanted : List NamedValue → Result RowsWanted FormFault → Type 0
-AreWanted pairs (Ok wanted) = SetsAll pairs no_rows wanted
-AreWanted pairs (Err fault) = IsRefusedInAll pairs no_rows fault
+AreWanted pairs (Ok wanted) = AreFew pairs × SetsAll pairs no_rows wanted
+AreWanted pairs (Err Many) = AreMany pairs
+AreWanted pairs (Err fault) = AreFew pairs × IsRefusedInAll pairs no_rows fault
 
 abbrev pub rows_asked : Bool → RowsWanted → RowsAsked
 rows_asked log wanted =

@@ -6,7 +6,7 @@ ghost use Rattle.ts_api.specs.Response.{IsJson};
 ghost use Rattle.ts_http.specs.Request.{field_in};
 ghost use Rattle.ts_site.specs.Commanding.{BeginsCommand, IsFirst, IsRefusal};
 ghost use Rattle.ts_api.specs.Request.{bearer_in};
-ghost use Rattle.ts_site.specs.Statuses.{BeginsOutcome, TellsCommand, command_members};
+ghost use Rattle.ts_site.specs.Statuses.{BeginsOutcome, IsNamed, TellsCommand, command_members};
 ghost use Rattle.ts_site.specs.Steps.{Answers};
 
 use crate::next::{Next, Waits, ask};
@@ -15,7 +15,7 @@ use std::alloc::{AllocError, Global};
 use ts_access::{Key, may};
 use ts_api::{Bearer, Response, Scene, bearer_in, outcome_frame, query_of, submit_frame};
 use ts_command::{Command, Outcome};
-use ts_form::{command_id_of, form_pairs};
+use ts_form::{FormFault, command_id_of, form_pairs};
 use ts_hmac::is_same_tag;
 use ts_http::Request;
 use ts_json::{Member, Plain};
@@ -82,12 +82,22 @@ pub(crate) fn begin_command(
     Ok(ask(Waits::Command(id), frame))
 }
 
+/// The id of the command that the query of a target names.
+fn command_named(alloc: Global, target: &[u8]) -> Result<Option<[u8; 16]>, AllocError>
+    ensures { IfOk result (IsNamed target.now) }
+{
+    match form_pairs(alloc, query_of(target)) {
+        Ok(pairs) => Ok(command_id_of(&pairs)),
+        Err(FormFault::Memory) => Err(AllocError),
+        Err(_) => Ok(None),
+    }
+}
+
 /// Begins a request for what became of a command.
 pub(crate) fn begin_outcome(alloc: Global, request: &Request) -> Result<Next, AllocError>
     ensures { IfOk result (BeginsOutcome request.now.target.items) }
 {
-    let pairs = form_pairs(alloc, query_of(&request.target))?;
-    let Some(id) = command_id_of(&pairs) else {
+    let Some(id) = command_named(alloc, &request.target)? else {
         let words = "id is not the 32 lower-case hexadecimal digits of a command's id";
         return Ok(Next::Tell(error(alloc, 400, words)?));
     };

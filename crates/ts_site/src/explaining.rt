@@ -11,7 +11,8 @@ use crate::refusing::{no_question_page, problem};
 use crate::verifying::time_kept;
 use std::alloc::{AllocError, Global};
 use ts_api::{
-    AskedQuestion, Content, Response, asked_of, question_frame, question_from, wanted_in,
+    AskedQuestion, Content, NoQuestion, Response, asked_of, question_frame, question_from,
+    wanted_in,
 };
 use ts_cert::Cert;
 use ts_form::{FormFault, Pair, form_pairs};
@@ -48,7 +49,14 @@ fn ask_form(alloc: Global, asked: AskedQuestion, pairs: Vec<Pair>) -> Result<Nex
 pub(crate) fn begin_form(alloc: Global, request: &Request, now: i64) -> Result<Next, AllocError>
     ensures { IfOk result Shows }
 {
-    let pairs = form_pairs(alloc, &request.body)?;
+    let pairs = match form_pairs(alloc, &request.body) {
+        Ok(pairs) => pairs,
+        Err(FormFault::Memory) => return Err(AllocError),
+        Err(fault) => {
+            let why = NoQuestion::Form(fault);
+            return Ok(Next::Tell(no_question_page(alloc, why, &[])?));
+        }
+    };
     match question_from(alloc, &pairs, now)? {
         Ok(asked) => ask_form(alloc, asked, pairs),
         Err(why) => Ok(Next::Tell(no_question_page(alloc, why, &pairs)?)),

@@ -4,7 +4,9 @@ ghost use Rattle.std.specs.Prelude.{◌≡◌, IfOk, MatchOption, map};
 ghost use Rattle.ts_json.specs.Members.{named_value};
 ghost use Rattle.ts_api.specs.Response.{IsError};
 ghost use Rattle.ts_site.specs.Frames.{reply_in};
-ghost use Rattle.ts_site.specs.Listings.{AreMembers, BeginsRows, HasNoRow, TellsPage, TellsRows};
+ghost use Rattle.ts_api.specs.Asking.{pairs_in};
+ghost use Rattle.ts_site.specs.Listings.{AreMembers, AreWanted, BeginsRows, HasNoRow};
+ghost use Rattle.ts_site.specs.Listings.{TellsPage, TellsRows};
 ghost use Rattle.ts_site.specs.Steps.{Answers};
 ghost use Rattle.ts_site.specs.Listings.{head_of, not_yet_words, rows_question};
 
@@ -15,7 +17,7 @@ use crate::status::count;
 use crate::verifying::time_kept;
 use std::alloc::{AllocError, Global};
 use ts_api::{Content, Response, query_of, question_frame};
-use ts_form::{RowsWanted, form_pairs};
+use ts_form::{FormFault, RowsWanted, form_pairs};
 use ts_http::Request;
 use ts_json::{Member, page_text};
 use ts_question::{Answer, Question, Reply, Terms};
@@ -44,12 +46,25 @@ pub(crate) fn rows_question(
     }
 }
 
+/// Which rows the query of a target asks for, or why it is refused.
+pub(crate) fn rows_wanted(
+    alloc: Global,
+    target: &[u8],
+) -> Result<Result<RowsWanted, FormFault>, AllocError>
+    ensures { IfOk result (AreWanted (pairs_in target.now)) }
+{
+    match form_pairs(alloc, query_of(target)) {
+        Ok(pairs) => Ok(RowsWanted::of(&pairs)),
+        Err(FormFault::Memory) => Err(AllocError),
+        Err(fault) => Ok(Err(fault)),
+    }
+}
+
 /// Begins a request to `/v1/store` or `/v1/log`.
 pub(crate) fn begin_rows(alloc: Global, request: &Request, log: bool) -> Result<Next, AllocError>
     ensures { IfOk result (BeginsRows log request.now.target.items) }
 {
-    let pairs = form_pairs(alloc, query_of(&request.target))?;
-    let wanted = match RowsWanted::of(&pairs) {
+    let wanted = match rows_wanted(alloc, &request.target)? {
         Ok(wanted) => wanted,
         Err(fault) => return Ok(Next::Tell(fault_error(alloc, fault)?)),
     };

@@ -5,13 +5,12 @@ ghost use Rattle.ts_site.specs.Requests.{Shows};
 
 use crate::board::Board;
 use crate::frames::{prefix_in, reply_in};
-use crate::listing::rows_question;
+use crate::listing::{rows_question, rows_wanted};
 use crate::next::{HomeAsked, Next, Waits, ask};
 use crate::refusing::problem;
 use crate::status::ask_status;
 use std::alloc::{AllocError, Global};
-use ts_api::{Content, Keeps, Response, fault_text, query_of, question_frame};
-use ts_form::{RowsWanted, form_pairs};
+use ts_api::{Content, Keeps, Response, fault_text, question_frame};
 use ts_http::Request;
 use ts_page::{SCRIPT, STYLE, StoreView, store_page};
 use ts_question::{Answer, Reply};
@@ -40,8 +39,7 @@ pub(crate) fn script(alloc: Global) -> Result<Response, AllocError> {
 pub(crate) fn begin_home(alloc: Global, request: &Request) -> Result<Next, AllocError>
     ensures { IfOk result Shows }
 {
-    let pairs = form_pairs(alloc, query_of(&request.target))?;
-    match RowsWanted::of(&pairs) {
+    match rows_wanted(alloc, &request.target)? {
         Ok(wanted) => {
             let asked = HomeAsked {
                 k: wanted.k,

@@ -1,6 +1,6 @@
 -- The query, and then the body.
 use Rattle.std.proofs.Common.{rules, ◌≡◌, map}
-use Rattle.ts_form.specs.Pairs.{pair_in}
+use Rattle.ts_form.specs.Pairs.{AreFew, pair_in}
 use Rattle.ts_api.specs.Asking.{pairs_in}
 use Rattle.ts_api.proofs.Bodies.{body_refused, body_says, query_refused}
 use Rattle.ts_api.proofs.asking.wanted_of.Goals as goal
@@ -9,7 +9,8 @@ pub returns-in-Ok-clause-says : goal.returns-in-Ok-clause-says
 returns-in-Ok-clause-says c =
     let same : map pair_in c.deref-2.result.now ≡ pairs_in c.args.request.now.target.items = search rules in
     let says = rw c.deref-in-Ok.ensures.value at c.with_body.ensures.says in
-    body_says c.with_body.result c.args.request.now.target.items c.args.request.now.body.items _ (rw same at c.in-Ok.ensures.says) says
+    let few : AreFew (pairs_in c.args.request.now.target.items) = search rules in
+    body_says c.with_body.result c.args.request.now.target.items c.args.request.now.body.items _ few (rw same at c.in-Ok.ensures.says) says
 
 pub returns-in-Ok-clause-refused : goal.returns-in-Ok-clause-refused
 returns-in-Ok-clause-refused c =

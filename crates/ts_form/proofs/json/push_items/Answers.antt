@@ -1,12 +1,12 @@
 -- One more text, or no more.
-use Rattle.std.proofs.Common.{rules, ◌≡◌, ◌+◌, ◌∙◌, ◌∷◌, ◌++◌, [], ap, sym, Some, drop, map, None}
+use Rattle.std.proofs.Common.{rules, ◌≡◌, ◌+◌, ◌∙◌, ◌∷◌, ◌++◌, [], ap, Some, drop, map, None}
 use Rattle.std.proofs.lemmas.List.{drop_all}
 use Rattle.serde_json.specs.Find.{as_str}
 use Rattle.serde_json.specs.View.{items_view, view}
 use Rattle.ts_form.specs.Pairs.{pair_in}
 use Rattle.ts_form.specs.Said.{both, items_said}
 use Rattle.ts_form.proofs.Dropping.{next_value}
-use Rattle.ts_form.proofs.Saying.{behind_all, next_item, no_more_items, no_text, said_item, text_is, unsaid_item}
+use Rattle.ts_form.proofs.Saying.{behind_all, next_item, no_more_items, no_text, text_is, unsaid_item}
 use Rattle.ts_form.proofs.json.push_items.Goals as goal
 
 pub returns-in_default-clause-unsaid : goal.returns-in_default-clause-unsaid
@@ -28,11 +28,10 @@ loop-item-preserved c =
     let x = c.item-item.result in
     let text = c.in-Some.text.now in
     let seen : as_str (view x) ≡ Some text = search rules in
-    let said = said_item name text (view x) inv.0 (text_is (view x) text seen) in
     let left = inv.2 ∙ ap (λ rest. both (Some inv.0) (items_said name rest)) (next_value xs i x c.loop-item-test.true c.item-item.is) in (
       inv.0 ++ (name, text) ∷ [],
       behind_all (map pair_in c.args.pairs.now.items) inv.0 (map pair_in c.loop-item.pairs.items) (map pair_in c.push.new.pairs.items) (name, text) inv.1 c.in_ok-push.ensures,
-      next_item _ inv.0 (inv.0 ++ (name, text) ∷ []) name (view x) (items_view (drop (i + 1) xs)) left said,
+      next_item _ inv.0 name text (view x) (items_view (drop (i + 1) xs)) left (text_is (view x) text seen),
     )
 
 pub returns : goal.returns
