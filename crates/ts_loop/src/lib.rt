@@ -19,10 +19,11 @@
 //! answered for longer than a round takes, and of several that submit each has its turn. A
 //! connection that is late (`ts_links`) is closed. Where all slots are taken, the connection that
 //! has been idle longest makes room for a new one, or, where keys are wanted, the one that has
-//! shown none for the longest time; where there is none, the new one is closed. An `accept` that
-//! fails is counted, and tried again after 100 ms. After a wrong frame its answer is written, the
-//! writing side is ended, and what still comes is read and dropped until the client ends or the
-//! time is over: else the system could take the answer away.
+//! shown none for the longest time, and else one of too many readers (`ts_sockets`); where there is
+//! none, the new one is closed. An `accept` that fails is counted, and tried again after 100 ms.
+//! After a wrong frame its answer is written, the writing side is ended, and what still comes is
+//! read and dropped until the client ends or the time is over: else the system could take the
+//! answer away.
 //!
 //! Where HTTP is wanted, its connections (`ts_http`) have a listener and slots of their own, as
 //! many as those of frames. What a request asks of the node the loop asks for it, on a connection
