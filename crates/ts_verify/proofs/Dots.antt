@@ -30,11 +30,11 @@ dot_is : (x : ℕ) → is_dot x ≡ true → x ≡ dot
 dot_is x e = grind (arith, nat_tests, e)
 
 -- the octets before and after a dot
-parted : (xs : List ℕ) (i : ℕ) → i < length xs → is_dot (get_or xs i 0) ≡ true
+split_at_dot : (xs : List ℕ) (i : ℕ) → i < length xs → is_dot (get_or xs i 0) ≡ true
     → xs ≡ take i xs ++ dot ∷ drop (suc i) xs
-parted [] i few is = absurd (omega arith)
-parted (x ∷ xs) zero few is = ap (λ (y : ℕ). y ∷ xs) (dot_is x is)
-parted (x ∷ xs) (suc i) few is = ap (λ (ys : List ℕ). x ∷ ys) (parted xs i (omega arith) is)
+split_at_dot [] i few is = absurd (omega arith)
+split_at_dot (x ∷ xs) zero few is = ap (λ (y : ℕ). y ∷ xs) (dot_is x is)
+split_at_dot (x ∷ xs) (suc i) few is = ap (λ (ys : List ℕ). x ∷ ys) (split_at_dot xs i (omega arith) is)
 
 dotless_front : (xs : List ℕ) (i : ℕ) → i < length xs
     → ((k : ℕ) → k < i → is_dot (get_or xs k 0) ≡ false) → is_dotless (take i xs) ≡ true
@@ -54,4 +54,4 @@ first_dot xs i found =
     take_all (length xs - (i + 1)) (drop (i + 1) xs) (omega (arith, length-drop (i + 1) xs)) in
     let after : drop (suc i) xs ≡ take (length xs - (i + 1)) (drop (i + 1) xs) =
     ap (λ (n : ℕ). drop n xs) (sym (add-one i)) ∙ sym whole in
-    (parted xs i h.0 h.1 ∙ ap (λ (ys : List ℕ). take i xs ++ dot ∷ ys) after, dotless_front xs i h.0 h.2)
+    (split_at_dot xs i h.0 h.1 ∙ ap (λ (ys : List ℕ). take i xs ++ dot ∷ ys) after, dotless_front xs i h.0 h.2)

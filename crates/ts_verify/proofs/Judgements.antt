@@ -9,8 +9,10 @@ use Rattle.ts_path.specs.Verdict.{IsVerdict}
 use Rattle.ts_path.specs.declared.verdict.Verdict.{Verdict}
 use Rattle.ts_path.specs.declared.verdict.Verdict.TheVariants.{Valid}
 use Rattle.ts_search.specs.Search.{Search, IsSearchAnswer, certificates_at, question}
-use Rattle.ts_search.specs.declared.answer.SearchAnswer.TheVariants.{Found, NoPath, SearchLimit}
-use Rattle.ts_verify.specs.Judged.{IsJudged}
+use Rattle.ts_search.specs.declared.answer.SearchAnswer.{SearchAnswer}
+use Rattle.ts_search.specs.declared.answer.SearchAnswer.TheVariants.{Found}
+use Rattle.ts_verify.specs.Judged.{AreChosen, IsJudged}
+use Rattle.ts_verify.specs.Lines.{IsLine}
 use Rattle.ts_verify.specs.inside.Judging.{IsExplained}
 use Rattle.ts_verify.proofs.Places.{at_middle}
 
@@ -33,23 +35,15 @@ found_is s number places policies chain h e =
           (sym e) (u.valid, u.accepted);
     }
 
-pub none_is : (s : Search) (place : ℕ) (chain : List Certificate) (verdict : Verdict)
-    → IsSearchAnswer s NoPath → IsExplained s place chain verdict → IsJudged s place chain verdict
-none_is s place chain verdict h e = record {
-  answer = NoPath;
+-- where the search found none, the chain by names is judged
+pub explained_is : (s : Search) (answer : SearchAnswer) (place : ℕ) (chain : List Certificate) (verdict : Verdict)
+    → IsSearchAnswer s answer
+    → ((anchor : TrustAnchor) → IsLine (s.asked anchor).good s.anchors s.certificates place chain → AreChosen s anchor answer place chain)
+    → IsExplained s place chain verdict → IsJudged s place chain verdict
+explained_is s answer place chain verdict h chosen e = record {
+  answer = answer;
   is_answer = h;
-  chosen = e.line;
-  anchor = e.anchor;
-  anchor_is = e.anchor_is;
-  verdict_is = e.verdict_is;
-}
-
-pub limit_is : (s : Search) (place : ℕ) (chain : List Certificate) (verdict : Verdict)
-    → IsSearchAnswer s SearchLimit → IsExplained s place chain verdict → IsJudged s place chain verdict
-limit_is s place chain verdict h e = record {
-  answer = SearchLimit;
-  is_answer = h;
-  chosen = e.line;
+  chosen = chosen e.anchor e.line;
   anchor = e.anchor;
   anchor_is = e.anchor_is;
   verdict_is = e.verdict_is;

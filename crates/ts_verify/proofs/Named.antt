@@ -1,6 +1,9 @@
 -- Chains by names.
 use Rattle.std.proofs.Common.{◌≡◌, ℕ, zero, suc, ◌<◌, ◌≤◌, inl, inr, Bool, true, false, not, ◌&&◌, ◌==◌, List, [], ◌∷◌, map, length, get_or}
 use Rattle.std.proofs.Common.{Option, Some, None, slice_get, refl, sym, ap, ◌∙◌, arith, subst}
+use Rattle.std.proofs.lemmas.Bool.{and_right}
+use Rattle.std.proofs.lemmas.List.{length-map}
+use Rattle.std.proofs.lemmas.Option.{slice_get_past}
 use Rattle.std.specs.Prelude.{unwrap_or}
 use Rattle.std.specs.List.{list_any}
 use Rattle.ts_name.specs.Sameness.{is_same_name}
@@ -16,13 +19,8 @@ use Rattle.ts_search.specs.Search.{certificates_at, with_certificate}
 use Rattle.ts_verify.specs.Lines.{Climbs, HasTop, IsAnchorAbove, IsAnchorPlace, IsFirstPlace, IsNextAbove}
 use Rattle.ts_verify.specs.Lines.{has_signed, is_anchored, is_next, is_signed_by, is_signed_under, is_under}
 use Rattle.ts_verify.specs.inside.Climbing.{IsClimbed}
-use Rattle.ts_verify.proofs.Places.{at_place, length_map}
-use Rattle.ts_verify.proofs.Preferred.{IsSought, at_end, second_fails}
-
-beyond : {X : Type 0} (xs : List X) (k : ℕ) → length xs ≤ k → slice_get xs k ≡ None
-beyond [] k far = refl
-beyond (x ∷ xs) zero far = absurd (omega (arith, far))
-beyond (x ∷ xs) (suc k) far = beyond xs k (omega (arith, far))
+use Rattle.ts_verify.proofs.Places.{at_place}
+use Rattle.ts_verify.proofs.Preferred.{IsSought, at_end}
 
 -- ---- anchors
 
@@ -48,15 +46,15 @@ not_under : (o : Option Certificate) → is_under o None ≡ false
 not_under (Some c) = refl
 not_under None = refl
 
-pub anchors_end : (good : Check) (anchors : List Anchor) (certs : List Cert) (top : ℕ) (named : Option ℕ)
+pub anchors_end : (good : Check) (anchors : List Anchor) (certs : List Cert) (top : ℕ) (place : Option ℕ)
     → IsSought (is_anchored (map anchor_in anchors) (map cert_in certs) top) (signs_under good (map anchor_in anchors) (map cert_in certs) top)
-    (length anchors) named
-    → IsAnchorAbove good (map anchor_in anchors) (map cert_in certs) top named
-anchors_end good anchors certs top named s =
+    (length anchors) place
+    → IsAnchorAbove good (map anchor_in anchors) (map cert_in certs) top place
+anchors_end good anchors certs top place s =
     at_end (is_anchored (map anchor_in anchors) (map cert_in certs) top) (signs_under good (map anchor_in anchors) (map cert_in certs) top)
-    (length anchors) named
+    (length anchors) place
     (λ a far. ap (λ o. is_under (slice_get (map cert_in certs) top) o)
-    (beyond (map anchor_in anchors) a (omega (arith, far, length_map anchor_in anchors)))
+    (slice_get_past (map anchor_in anchors) a (omega (arith, far, length-map anchors anchor_in)))
     ∙ not_under (slice_get (map cert_in certs) top))
     s
 
@@ -87,16 +85,16 @@ no_subject None = refl
 
 no_issuer : (certificates : List Certificate) (i j : ℕ) → length certificates ≤ i → issues certificates i j ≡ false
 unfolding issues
-no_issuer certificates i j far = ap (λ o. is_issued_by (slice_get certificates j) o) (beyond certificates i far)
+no_issuer certificates i j far = ap (λ o. is_issued_by (slice_get certificates j) o) (slice_get_past certificates i far)
     ∙ no_subject (slice_get certificates j)
 
-pub certificates_end : (good : Check) (certs : List Cert) (top : ℕ) (used : List ℕ) (named : Option ℕ)
-    → IsSought (is_next (map cert_in certs) top used) (signs good (map cert_in certs) top) (length certs) named
-    → IsNextAbove good (map cert_in certs) top used named
-certificates_end good certs top used named s =
-    at_end (is_next (map cert_in certs) top used) (signs good (map cert_in certs) top) (length certs) named
-    (λ i far. second_fails (not (list_any (λ j. j == i) used)) (issues (map cert_in certs) i top)
-    (no_issuer (map cert_in certs) i top (omega (arith, far, length_map cert_in certs))))
+pub certificates_end : (good : Check) (certs : List Cert) (top : ℕ) (used : List ℕ) (place : Option ℕ)
+    → IsSought (is_next (map cert_in certs) top used) (signs good (map cert_in certs) top) (length certs) place
+    → IsNextAbove good (map cert_in certs) top used place
+certificates_end good certs top used place s =
+    at_end (is_next (map cert_in certs) top used) (signs good (map cert_in certs) top) (length certs) place
+    (λ i far. and_right (not (list_any (λ j. j == i) used)) (issues (map cert_in certs) i top)
+    (no_issuer (map cert_in certs) i top (omega (arith, far, length-map certs cert_in))))
     s
 
 -- ---- the chain
@@ -142,10 +140,10 @@ under_is good anchors certificates top below (Some place) above = inl above
 under_is good anchors certificates top below None above = inr (refl, above)
 
 -- nothing is above the last
-pub climbed : (good : Check) (anchors : List TrustAnchor) (certificates : List Certificate) (places : List ℕ) (top : ℕ) (found : Option ℕ)
+pub is_climbed : (good : Check) (anchors : List TrustAnchor) (certificates : List Certificate) (places : List ℕ) (top : ℕ) (found : Option ℕ)
     (c : IsUpTo good anchors certificates places top) → HasTop anchors certificates (top ∷ c.below)
     → IsAnchorAbove good anchors certificates top found → IsClimbed good anchors certificates places found
-climbed good anchors certificates places top found c has_top above =
+is_climbed good anchors certificates places top found c has_top above =
     subst (λ (ps : List ℕ). IsClimbed good anchors certificates ps found) (sym c.places_are) (record {
       climbs = c.climbs;
       has_top = has_top;

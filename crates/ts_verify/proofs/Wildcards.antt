@@ -17,15 +17,15 @@ dotless_tail c b less =
     ]) less
 
 -- a name has one first label
-unique : (a x b y : List ℕ) → is_dotless a ≡ true → is_dotless b ≡ true
+one_first_label : (a x b y : List ℕ) → is_dotless a ≡ true → is_dotless b ≡ true
     → a ++ dot ∷ x ≡ b ++ dot ∷ y → (a ≡ b) × (x ≡ y)
-unique [] x [] y p q e = (refl, (cc))
-unique [] x (c ∷ b) y p q e = let is : dot ≡ c = cc in absurd (no_label c b is q)
-unique (d ∷ a) x [] y p q e = let is : dot ≡ d = cc in absurd (no_label d a is p)
-unique (d ∷ a) x (c ∷ b) y p q e =
+one_first_label [] x [] y p q e = (refl, (cc))
+one_first_label [] x (c ∷ b) y p q e = let is : dot ≡ c = cc in absurd (no_label c b is q)
+one_first_label (d ∷ a) x [] y p q e = let is : dot ≡ d = cc in absurd (no_label d a is p)
+one_first_label (d ∷ a) x (c ∷ b) y p q e =
     let head : d ≡ c = cc in
     let tails : a ++ dot ∷ x ≡ b ++ dot ∷ y = cc in
-    let both = unique a x b y (dotless_tail d a p) (dotless_tail c b q) tails in
+    let both = one_first_label a x b y (dotless_tail d a p) (dotless_tail c b q) tails in
     (ap (λ (n : ℕ). n ∷ a) head ∙ ap (λ (ns : List ℕ). c ∷ ns) both.0, both.1)
 
 -- a pattern and a host that are cut at their first dots: what is left to ask
@@ -42,11 +42,11 @@ is_under pattern host rest label others cut parted less some same = record {
   same = same;
 }
 
-pub asks : (pattern host rest label others : List ℕ) → pattern ≡ 42 ∷ dot ∷ rest
+pub wildcard_parts : (pattern host rest label others : List ℕ) → pattern ≡ 42 ∷ dot ∷ rest
     → host ≡ label ++ dot ∷ others → is_dotless label ≡ true → IsUnderWildcard pattern host
     → (1 ≤ length label) × (lower others ≡ lower rest)
-asks pattern host rest label others cut parted less under =
-    let both = unique label others under.label under.others less under.one_label.1
+wildcard_parts pattern host rest label others cut parted less under =
+    let both = one_first_label label others under.label under.others less under.one_label.1
     (sym parted ∙ under.host_is) in
     let cuts : 42 ∷ dot ∷ rest ≡ 42 ∷ dot ∷ under.rest = sym cut ∙ under.pattern_is in
     let rests : rest ≡ under.rest = cc in (

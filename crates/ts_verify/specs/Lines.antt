@@ -20,9 +20,9 @@ IsFirstPlace test None = (k : ℕ) → test k ≡ false
 
 -- the first place that passes two tests; where none does, the first that passes the first of them
 abbrev pub IsPreferredPlace : (ℕ → Bool) → (ℕ → Bool) → Option ℕ → Type 0
-IsPreferredPlace test wish (Some i) = IsFirstPlace (λ k. test k && wish k) (Some i)
-    ⊎ (IsFirstPlace (λ k. test k && wish k) None × IsFirstPlace test (Some i))
-IsPreferredPlace test wish None = IsFirstPlace test None
+IsPreferredPlace named signed (Some i) = IsFirstPlace (λ k. named k && signed k) (Some i)
+    ⊎ (IsFirstPlace (λ k. named k && signed k) None × IsFirstPlace named (Some i))
+IsPreferredPlace named signed None = IsFirstPlace named None
 
 -- ---- who may have issued a certificate
 

@@ -53,8 +53,8 @@ fn explain<'a, S: SignatureCheck>(
     })
 }
 
-/// What the search finds among certificates of which the leaf is the first.
-fn found_among<'a, S: SignatureCheck>(
+/// What the search answers among certificates of which the leaf is the first.
+fn answer_among<'a, S: SignatureCheck>(
     alloc: Global,
     certificates: &[Cert<'a>],
     anchors: &[Anchor<'a>],
@@ -91,7 +91,7 @@ pub(crate) fn judge<'a, S: SignatureCheck>(
         (search_among certificates.now anchors.now inputs.now crls.now (S.accepts check.now))
         j.place (map cert_in j.chain.items) j.verdict) }
 {
-    let answer = found_among(alloc, certificates, anchors, inputs, crls, check)?;
+    let answer = answer_among(alloc, certificates, anchors, inputs, crls, check)?;
     match answer {
         SearchAnswer::Found {
             anchor,

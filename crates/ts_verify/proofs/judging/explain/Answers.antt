@@ -1,5 +1,6 @@
 -- The verdict is that of validation, on the certificates at the places of the chain by names.
 use Rattle.std.proofs.Common.{◌∙◌, ℕ, List, map, length, ap, arith, subst, sym}
+use Rattle.std.proofs.lemmas.List.{length-map}
 use Rattle.ts_cert.specs.declared.certificate.Cert.{Cert}
 use Rattle.ts_cert.specs.CertView.{cert_in}
 use Rattle.ts_cert.specs.Certificate.{Certificate}
@@ -8,7 +9,7 @@ use Rattle.ts_path.specs.Verdict.{IsVerdict}
 use Rattle.ts_search.specs.Search.{certificates_at, question}
 use Rattle.ts_verify.specs.Lines.{IsAnchorPlace}
 use Rattle.ts_verify.proofs.Named.{few_at}
-use Rattle.ts_verify.proofs.Places.{at_place, length_map, or_first}
+use Rattle.ts_verify.proofs.Places.{at_place, or_first}
 use Rattle.ts_verify.proofs.judging.explain.Goals as goal
 
 pub validate-requires-clause-few : goal.validate-requires-clause-few
@@ -19,7 +20,7 @@ validate-requires-clause-few g c =
     omega (
       arith,
       ap (λ (cs : List Cert). length cs) c.deref-2.ensures.value,
-      length_map cert_in c.in_ok-chain.chain.items,
+      length-map c.in_ok-chain.chain.items cert_in,
       ap (λ (cs : List Certificate). length cs) chain_is,
       few_at certs places,
       c.in_ok-line.ensures.line.few,

@@ -1,9 +1,9 @@
 use Rattle.std.proofs.Common.{◌≡◌, ◌≢◌, ℕ, ◌<◌, false, map, length, arith, sym, ◌∙◌, below_more, refl}
 use Rattle.std.proofs.lemmas.Bool.{false≢true}
+use Rattle.std.proofs.lemmas.List.{length-map}
 use Rattle.ts_cert.specs.CertView.{cert_in}
 use Rattle.ts_search.specs.Candidates.{issues}
 use Rattle.ts_search.proofs.Rows.{test_is}
-use Rattle.ts_verify.proofs.Places.{length_map}
 use Rattle.ts_verify.proofs.leaf.issues_none.Goals as goal
 use Rattle.ts_verify.proofs.leaf.issues_none.Goals.{else-other-place-via-then-other-place+else-issues, else-other-place-via-else-other-place}
 
@@ -14,7 +14,7 @@ returns-then-issues c =
     c.index-certificates-other.result c.issues.result c.requires c.loop-other-test.true
     c.index-certificates-place.is c.index-certificates-other.is c.issues.ensures in
     let within : c.loop-other.other < length (map cert_in certs) =
-    omega (arith, length_map cert_in certs, c.loop-other-test.true) in (
+    omega (arith, length-map certs cert_in, c.loop-other-test.true) in (
       λ f. absurd (false≢true f),
       λ none. sym (none c.loop-other.other within c.if-other-place.true) ∙ (test ∙ c.if-issues.true),
     )
@@ -38,6 +38,6 @@ pub returns : goal.returns
 returns c =
     let certs = c.args.certificates.now in (
       λ t j l ne. c.loop-other.invariant j
-          (omega (arith, length_map cert_in certs, l, c.loop-other-test.false)) ne,
+          (omega (arith, length-map certs cert_in, l, c.loop-other-test.false)) ne,
       λ none. refl,
     )

@@ -12,4 +12,4 @@ invariant-loop-place g l =
     let anchors = map anchor_in l.anchors in
     let certs = map cert_in l.certificates in
     let good = g.S.SignatureCheck.accepts l.check in
-    IsSought (is_anchored anchors certs l.top) (signs_under good anchors certs l.top) l.place l.named
+    IsSought (is_anchored anchors certs l.top) (signs_under good anchors certs l.top) l.place l.named_place

@@ -10,4 +10,4 @@ abbrev pub invariant-loop-place : goal.invariant-loop-place
 invariant-loop-place g l =
     let certs = map cert_in l.certificates in
     let good = g.S.SignatureCheck.accepts l.check in
-    IsSought (is_next certs l.top l.used) (signs good certs l.top) l.place l.named
+    IsSought (is_next certs l.top l.used) (signs good certs l.top) l.place l.named_place

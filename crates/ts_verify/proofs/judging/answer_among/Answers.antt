@@ -4,7 +4,7 @@ use Rattle.ts_cert.specs.declared.certificate.Cert.{Cert}
 use Rattle.ts_search.specs.Search.{IsSearchAnswer}
 use Rattle.ts_search.specs.View.{search_among}
 use Rattle.ts_verify.proofs.Places.{front_is}
-use Rattle.ts_verify.proofs.judging.found_among.Goals as goal
+use Rattle.ts_verify.proofs.judging.answer_among.Goals as goal
 
 pub returns : goal.returns
 returns g c =
