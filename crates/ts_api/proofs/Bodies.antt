@@ -15,7 +15,7 @@ use Rattle.ts_api.specs.declared.asking.NoQuestion.TheVariants.{Form, Limits}
 
 no_json : (body : List ℕ) (fault : FormFault) → IsUtf8 body → IsUnsaidText body fault → SaysNoJson body fault
 no_json body faults.Memory text unsaid = unsaid
-no_json body faults.Json text unsaid = λ pairs says. unsaid pairs says.1
+no_json body faults.Json text unsaid = (λ long. unsaid.0 long.1, λ pairs says. unsaid.1 pairs says.1)
 no_json body faults.Many text unsaid = (unsaid.0, (text, unsaid.1), unsaid.2)
 no_json body faults.Name text unsaid = (text, unsaid)
 no_json body (faults.Value field) text unsaid = unsaid
@@ -53,7 +53,9 @@ pub body_refused : {T : Type 0} (r : Result T FormFault) (target body : List ℕ
 body_refused (Ok wanted) target body mid says refused = refused
 body_refused (Err fault) target body mid says refused = refused_in_body target body mid fault says refused
 
-pub body_says : {E : Type 0} (r : Result WantedFields E) (target body : List ℕ) (mid : WantedFields) → AreFew (pairs_in target) → SaysPairs (pairs_in target) mid → IfOk r (SaysBody body mid) → IfOk r (Says target body)
+pub body_says : {E : Type 0} (r : Result WantedFields E) (target body : List ℕ) (mid : WantedFields)
+    → AreFew (pairs_in target) → SaysPairs (pairs_in target) mid
+    → IfOk r (SaysBody body mid) → IfOk r (Says target body)
 body_says (Ok wanted) target body mid few says is = (few, (mid, says, is))
 body_says (Err e) target body mid few says is = is
 

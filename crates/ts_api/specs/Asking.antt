@@ -30,13 +30,15 @@ is_json (octet ∷ octets) =
 abbrev pub SaysJson : List ℕ → List NamedValue → Type 0
 SaysJson body pairs = IsUtf8 body × IsSaid body pairs
 
--- memory was refused, or the body is an object with a name that no field has, or none that says
--- pairs, or one that says too many
+-- Why a body of JSON is refused: memory, which any call may answer, or the one fault of this body.
+-- It is an object with a name of more than 64 octets; or it says more than 256 pairs; or it is no
+-- object with such a name, and says no pairs.
 abbrev pub SaysNoJson : List ℕ → FormFault → Type 0
 SaysNoJson body faults.Memory = Unit {0}
 SaysNoJson body faults.Name = IsUtf8 body × IsLongText body
 SaysNoJson body faults.Many = (pairs : List NamedValue) × SaysJson body pairs × AreMany pairs
-SaysNoJson body faults.Json = (pairs : List NamedValue) → ¬ (SaysJson body pairs)
+SaysNoJson body faults.Json = ¬ (IsUtf8 body × IsLongText body)
+    × ((pairs : List NamedValue) → ¬ (SaysJson body pairs))
 SaysNoJson body fault = ⊥
 
 -- an object of JSON says pairs, nothing says nothing, any other body is certificates

@@ -1,3 +1,4 @@
 mod Saying
 mod Dropping
+mod OneByOne
 mod Naming

@@ -1,5 +1,6 @@
 -- What is said one after another.
-use Rattle.std.proofs.Common.{◌≡◌, ◌≤◌, ◌<◌, ◌+◌, ◌∙◌, arith, refl, sym, ap, subst, ℕ, Bool, length, length-append, nat_le, nat_lt, List, [], ◌∷◌, ◌++◌, true, false, Option, Some, None, append_assoc, codes}
+use Rattle.std.proofs.Common.{◌≡◌, ◌≤◌, ◌<◌, ◌+◌, ◌∙◌, arith, refl, sym, ap, subst, ℕ, Bool, true, false, nat_le, nat_lt}
+use Rattle.std.proofs.Common.{List, [], ◌∷◌, ◌++◌, length, length-append, append_assoc, Option, Some, None, codes}
 use Rattle.std.specs.Prelude.{fold, if◌then◌else◌}
 use Rattle.std.specs.Fmt.{decimal}
 use Rattle.std.proofs.lemmas.Bool.Decides.{nat_tests}
@@ -112,7 +113,9 @@ pub said_null : (name : List ℕ) (value : Data) (before : List NamedValue) → 
 unfolding value_said
 said_null name value before seen = record { more = []; is = ap (value_said name) seen; behind = refl }
 
-pub said_true : (name : List ℕ) (value : Data) (before after : List NamedValue) → value ≡ boolean true → after ≡ with_pair before (name, codes "true") → AppendsPairs (value_said name value) before after
+pub said_true : (name : List ℕ) (value : Data) (before after : List NamedValue)
+    → value ≡ boolean true → after ≡ with_pair before (name, codes "true")
+    → AppendsPairs (value_said name value) before after
 unfolding value_said
 said_true name value before after seen behind = record { more = (name, codes "true") ∷ []; is = ap (value_said name) seen; behind = behind }
 
@@ -134,7 +137,11 @@ pub said_number : (name other : List ℕ) (n : ℕ) (x : Num) (value : Data) (be
 unfolding value_said
 said_number name other n (unsigned m) value before after seen whole same behind =
     let is_n : m ≡ n = cc in
-    record { more = (name, decimal n) ∷ []; is = ap (value_said name) (seen ∙ ap (λ (k : ℕ). number (unsigned k)) is_n); behind = behind ∙ ap (λ (t : List ℕ). with_pair before (name, t)) same }
+    record {
+      more = (name, decimal n) ∷ [];
+      is = ap (value_said name) (seen ∙ ap (λ (k : ℕ). number (unsigned k)) is_n);
+      behind = behind ∙ ap (λ (t : List ℕ). with_pair before (name, t)) same;
+    }
 said_number name other n (negative z) value before after seen whole same behind = cc
 said_number name other n (float f) value before after seen whole same behind = cc
 

@@ -9,7 +9,7 @@ use Rattle.ts_question.specs.declared.terms.Flags.{Flags}
 use Rattle.ts_der.specs.Octets.{AreOctets}
 use Rattle.ts_time.specs.Text.{IsGeneral}
 use Rattle.ts_form.specs.Names.{field_named}
-use Rattle.ts_form.specs.Pairs.{NamedValue}
+use Rattle.ts_form.specs.Pairs.{IsFirstRefused, NamedValue, SetsEach}
 use Rattle.ts_literal.specs.Literals.{IsHex}
 use Rattle.ts_form.specs.Values.{AreCertificates, AreWritten, IsDotted, IsPosition}
 use Rattle.ts_form.specs.declared.field.Field.{Field}
@@ -147,14 +147,11 @@ IsRefused pair old fault = IsWrong pair old fault
 
 -- ---- pairs, one after another
 abbrev pub SetsAll : List NamedValue → WantedFields → WantedFields → Type 0
-SetsAll [] old new = new ≡ old
-SetsAll (pair ∷ pairs) old new = (mid : WantedFields) × Sets pair old mid × SetsAll pairs mid new
+SetsAll pairs old new = SetsEach Sets pairs old new
 
 -- the first pair that is refused
 abbrev pub IsRefusedInAll : List NamedValue → WantedFields → FormFault → Type 0
-IsRefusedInAll [] old fault = ⊥
-IsRefusedInAll (pair ∷ pairs) old fault = IsRefused pair old fault
-    ⊎ ((mid : WantedFields) × Sets pair old mid × IsRefusedInAll pairs mid fault)
+IsRefusedInAll pairs old fault = IsFirstRefused Sets IsRefused pairs old fault
 
 -- the certificates of octets are behind those that were there
 abbrev pub AddsCertificates : List ℕ → WantedFields → WantedFields → Type 0

@@ -2,7 +2,7 @@
 use Rattle.std.specs.Prelude.{◌≡◌, ◌≢◌, ◌⊎◌, ℕ, List, [], ◌∷◌, Option, Some, None, codes}
 use Rattle.std.specs.Prelude.{if◌then◌else◌}
 use Rattle.std.specs.Str.{bytes_eq}
-use Rattle.ts_form.specs.Pairs.{NamedValue}
+use Rattle.ts_form.specs.Pairs.{IsFirstRefused, NamedValue, SetsEach}
 use Rattle.ts_literal.specs.Literals.{IsHex, IsNumber}
 use Rattle.ts_form.specs.Values.{IsPosition}
 use Rattle.ts_form.specs.declared.field.Field.{Field}
@@ -32,8 +32,7 @@ pub record Sets (pair : NamedValue) (old new : RowsWanted) : Type 0 where
   pub adds : ((pair.1 ≡ []) × (new ≡ old)) ⊎ Adds field pair.1 old new
 
 abbrev pub SetsAll : List NamedValue → RowsWanted → RowsWanted → Type 0
-SetsAll [] old new = new ≡ old
-SetsAll (pair ∷ pairs) old new = (mid : RowsWanted) × Sets pair old mid × SetsAll pairs mid new
+SetsAll pairs old new = SetsEach Sets pairs old new
 
 -- ---- refusals
 
@@ -57,9 +56,7 @@ IsRefused pair old fault = IsWrong pair old fault
 
 -- the first pair that is refused
 abbrev pub IsRefusedInAll : List NamedValue → RowsWanted → FormFault → Type 0
-IsRefusedInAll [] old fault = ⊥
-IsRefusedInAll (pair ∷ pairs) old fault = IsRefused pair old fault
-    ⊎ ((mid : RowsWanted) × Sets pair old mid × IsRefusedInAll pairs mid fault)
+IsRefusedInAll pairs old fault = IsFirstRefused Sets IsRefused pairs old fault
 
 -- nothing is given
 abbrev pub no_rows : RowsWanted

@@ -56,18 +56,18 @@ abbrev pub is_long : Data → Bool
 is_long (object members) = has_long_name members
 is_long other = false
 
--- the text is of an object with such a name
+-- the text is of an object with a name of more than 64 octets
 abbrev pub IsLongText : List ℕ → Type 0
 IsLongText text = (value : Data) × (read text ≡ Some value) × (is_long value ≡ true)
 
--- the text is of an object without, that says these pairs
+-- the text is of an object without such a name, which says these pairs
 pub record IsSaid (text : List ℕ) (pairs : List NamedValue) : Type 0 where
   pub value : Data
   pub is_read : read text ≡ Some value
   pub short : is_long value ≡ false
   pub said : object_said value ≡ Some pairs
 
--- what is said stands behind what was there, as far as so many pairs are taken
+-- what is said stands behind what was there, of which no more than 257 pairs are kept
 pub record AppendsPairs (said : Option (List NamedValue)) (before after : List NamedValue) : Type 0
   where
     pub more : List NamedValue
@@ -80,17 +80,19 @@ IsUnsaid said faults.Memory = Unit {0}
 IsUnsaid said faults.Json = said ≡ None
 IsUnsaid said fault = ⊥
 
--- memory was refused, or this says nothing, or too many pairs
+-- memory was refused, or this says nothing, or it says more than 256 pairs
 abbrev pub IsNotTaken : Option (List NamedValue) → FormFault → Type 0
 IsNotTaken said faults.Many =
     (pairs : List NamedValue) × (said ≡ Some pairs) × AreMany pairs
 IsNotTaken said fault = IsUnsaid said fault
 
--- memory was refused, or the text is of an object with a name that no field has; or of none that
--- says pairs, or of one that says too many
+-- Why a text is refused: memory, which any call may answer, or the one fault of this text. It is of
+-- an object with a name of more than 64 octets; or it says more than 256 pairs; or it is of no
+-- object with such a name, and says no pairs.
 abbrev pub IsUnsaidText : List ℕ → FormFault → Type 0
 IsUnsaidText text faults.Memory = Unit {0}
 IsUnsaidText text faults.Name = IsLongText text
 IsUnsaidText text faults.Many = (pairs : List NamedValue) × IsSaid text pairs × AreMany pairs
-IsUnsaidText text faults.Json = (pairs : List NamedValue) → ¬ (IsSaid text pairs)
+IsUnsaidText text faults.Json =
+    ¬ (IsLongText text) × ((pairs : List NamedValue) → ¬ (IsSaid text pairs))
 IsUnsaidText text fault = ⊥

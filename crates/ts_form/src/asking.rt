@@ -2,7 +2,7 @@
 
 ghost use Rattle.std.specs.Prelude.{◌≡◌, false, MatchResult};
 ghost use Rattle.ts_question.specs.Question.{is_within};
-ghost use Rattle.ts_form.specs.Asking.{asked_in, terms_in};
+ghost use Rattle.ts_form.specs.Asking.{asked_in};
 
 use crate::wanted::WantedFields;
 use std::alloc::Global;

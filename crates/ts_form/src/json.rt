@@ -15,7 +15,7 @@ use std::alloc::{AllocError, Global};
 /// The most octets of a name that is looked at.
 const MAX_NAME: usize = 64;
 
-/// Puts a pair behind others, unless there are too many already.
+/// Puts a pair behind others, unless these are more than 256 already.
 fn push(alloc: Global, pairs: &mut Vec<Pair>, name: &str, value: &str) -> Result<(), AllocError>
     ensures { OnOk result (map pair_in pairs.new.items
         ≡ with_pair (map pair_in pairs.old.items) (name.now, value.now)) }
@@ -78,7 +78,7 @@ fn push_member(
 }
 
 /// The pairs that the members of an object say. All are read, so that it is known whether they
-/// say pairs, also where these are too many.
+/// say pairs, also where these are more than 256.
 fn members_pairs(alloc: Global, members: &Map<String, Value>) -> Result<Vec<Pair>, FormFault>
     ensures said { IfOk result (λ pairs. members_said (members_view members.now.entries)
         ≡ Some (map pair_in pairs.items)) }
@@ -96,8 +96,8 @@ fn members_pairs(alloc: Global, members: &Map<String, Value>) -> Result<Vec<Pair
     Ok(pairs)
 }
 
-/// Whether the name of a member is longer than that of any field. It is copied for each text of a
-/// list.
+/// Whether the name of a member has more than 64 octets, which no field's has. A name is copied for
+/// each text of a list, so such an object is refused before any is.
 fn has_long_name(members: &Map<String, Value>) -> bool
     ensures { result ≡ has_long_name (members_view members.now.entries) }
 {
@@ -109,7 +109,7 @@ fn has_long_name(members: &Map<String, Value>) -> bool
     false
 }
 
-/// Whether a value is an object with such a name.
+/// Whether a value is an object with a name of more than 64 octets.
 fn is_long(value: &Value) -> bool
     ensures { result ≡ is_long (view value.now) }
 {
@@ -141,9 +141,9 @@ fn object_pairs(alloc: Global, value: &Value) -> Result<Vec<Pair>, FormFault>
 ///
 /// # Errors
 ///
-/// `Name` exactly where a name of the object has more than 64 octets, which no field's has; else
-/// `Json` where the text is no such object, and `Many` where it says more than 256 pairs, of which
-/// 257 are kept meanwhile; `Memory`.
+/// `Name` exactly where the text is an object with a name of more than 64 octets, which no field's
+/// has; of the other texts `Json` exactly where they are no object that says pairs, and `Many`
+/// exactly where they say more than 256, of which 257 are kept meanwhile. `Memory` at any text.
 pub fn json_pairs(alloc: Global, text: &str) -> Result<Vec<Pair>, FormFault>
     ensures said { IfOk result (λ pairs. IsSaid text.now (map pair_in pairs.items)) }
     ensures few { IfOk result (λ pairs. AreFew (map pair_in pairs.items)) }

@@ -2,7 +2,7 @@
 //! the question that they say.
 //!
 //! ```text
-//! let mut wanted = Wanted::new(alloc);
+//! let mut wanted = WantedFields::new(alloc);
 //! wanted.add_all(alloc, &form_pairs(alloc, b"k=5&hard")?)?;
 //! wanted.add_certificates(alloc, pem)?;                  // the body: the leaf first
 //! let question = question_of(alloc, wanted, now)?;       // the moment is now, if none was given
@@ -19,8 +19,9 @@
 //! - [`form_pairs`]: the pairs of `application/x-www-form-urlencoded` octets, decoded, in order;
 //!   refused exactly where they are more than 256.
 //! - [`json_pairs`]: what a JSON object says (`specs/Said`): a pair for each text, number, `true`
-//!   and `false`, and of a list one for each text in it; nothing for `null`; names of more than
-//!   64 octets and more than 256 pairs are refused.
+//!   and `false`, and of a list one for each text in it; nothing for `null`. Refused exactly where
+//!   a name has more than 64 octets, else where the text is no such object, else where it says more
+//!   than 256 pairs, each by a fault of its own.
 //! - [`WantedFields::add`]: a pair sets the field that it names (`specs/Fields`), or is refused,
 //!   for a fault that is so: no field has the name, the text is no value of it, it is given twice;
 //!   or memory.
@@ -41,6 +42,7 @@ mod field;
 mod flags;
 mod form;
 mod json;
+mod once;
 mod pair;
 mod rows;
 mod values;

@@ -2,12 +2,12 @@
 
 ghost use Rattle.std.specs.Prelude.{◌≡◌, ℕ, List, IfOk, IfErr, OnOk, MatchOption, map};
 ghost use Rattle.ts_form.specs.Pairs.{pair_in};
-ghost use Rattle.ts_form.specs.Rows.{Adds, IsRefused, IsRefusedIn, IsRefusedInAll, NameId, Sets};
-ghost use Rattle.ts_form.specs.Rows.{SetsAll, field_named, no_rows};
-ghost use Rattle.ts_form.specs.declared.field.Field.TheVariants as fields;
+ghost use Rattle.ts_form.specs.Rows.{IsRefused, IsRefusedInAll, NameId, Sets, SetsAll};
+ghost use Rattle.ts_form.specs.Rows.{field_named, no_rows};
 
 use crate::fault::FormFault;
 use crate::field::Field;
+use crate::once::give_once;
 use crate::pair::Pair;
 use ts_literal::{id_of, number_in, number_of};
 use ts_question::MAX_POSITION;
@@ -33,36 +33,6 @@ fn named(name: &str) -> Option<Field>
 }
 
 impl RowsWanted {
-    /// Gives the position.
-    fn set_k(&mut self, text: &str) -> Result<(), FormFault>
-        ensures adds { OnOk result (Adds fields.K text.now self.old self.new) }
-        ensures refused { IfErr result (IsRefusedIn fields.K text.now self.old) }
-    {
-        if self.k.is_some() {
-            return Err(FormFault::Twice(Field::K));
-        }
-        let Some(k) = number_in(text, 0, MAX_POSITION) else {
-            return Err(FormFault::Value(Field::K));
-        };
-        self.k = Some(k);
-        Ok(())
-    }
-
-    /// Gives the number of rows before them.
-    fn set_from(&mut self, text: &str) -> Result<(), FormFault>
-        ensures adds { OnOk result (Adds fields.From text.now self.old self.new) }
-        ensures refused { IfErr result (IsRefusedIn fields.From text.now self.old) }
-    {
-        if self.from.is_some() {
-            return Err(FormFault::Twice(Field::From));
-        }
-        let Some(from) = number_of(text) else {
-            return Err(FormFault::Value(Field::From));
-        };
-        self.from = Some(from);
-        Ok(())
-    }
-
     /// Adds what a pair says.
     fn add(&mut self, name: &str, value: &str) -> Result<(), FormFault>
         ensures sets { OnOk result (Sets (name.now, value.now) self.old self.new) }
@@ -70,8 +40,8 @@ impl RowsWanted {
     {
         match named(name) {
             Some(_) if value.is_empty() => Ok(()),
-            Some(Field::K) => self.set_k(value),
-            Some(Field::From) => self.set_from(value),
+            Some(Field::K) => give_once(Field::K, &mut self.k, number_in(value, 0, MAX_POSITION)),
+            Some(Field::From) => give_once(Field::From, &mut self.from, number_of(value)),
             _ => Err(FormFault::Name),
         }
     }

@@ -1,6 +1,6 @@
 //! What pairs ask for.
 
-ghost use Rattle.std.specs.Prelude.{◌≡◌, ◌≢◌, ℕ, List, Ok, IfOk, IfErr, OnOk, map};
+ghost use Rattle.std.specs.Prelude.{◌≡◌, Ok, IfOk, IfErr, OnOk, map};
 ghost use Rattle.base64.specs.Engines.{standard};
 ghost use Rattle.base64.specs.GeneralPurpose.{decode_of};
 ghost use Rattle.ts_form.specs.Fields.{Adds, AddsCertificates, Appends, AreRefused, IsNothing};
@@ -15,6 +15,7 @@ ghost use Rattle.ts_form.specs.declared.field.Field.TheVariants as fields;
 use crate::fault::FormFault;
 use crate::field::Field;
 use crate::flags::{is_flag, no_flags, with_flag};
+use crate::once::give_once;
 use crate::pair::Pair;
 use crate::values::{flag_of, moment_of};
 use base64::DecodeAllocError;
@@ -121,51 +122,6 @@ impl WantedFields {
         Ok(())
     }
 
-    /// Gives the moment.
-    fn set_at(&mut self, text: &str) -> Result<(), FormFault>
-        ensures adds { OnOk result (Adds fields.At text.now self.old self.new) }
-        ensures refused { IfErr result (IsRefusedIn fields.At text.now self.old) }
-    {
-        if self.at.is_some() {
-            return Err(FormFault::Twice(Field::At));
-        }
-        let Some(moment) = moment_of(text) else {
-            return Err(FormFault::Value(Field::At));
-        };
-        self.at = Some(moment);
-        Ok(())
-    }
-
-    /// Gives the position.
-    fn set_k(&mut self, text: &str) -> Result<(), FormFault>
-        ensures adds { OnOk result (Adds fields.K text.now self.old self.new) }
-        ensures refused { IfErr result (IsRefusedIn fields.K text.now self.old) }
-    {
-        if self.k.is_some() {
-            return Err(FormFault::Twice(Field::K));
-        }
-        let Some(k) = number_in(text, 0, MAX_POSITION) else {
-            return Err(FormFault::Value(Field::K));
-        };
-        self.k = Some(k);
-        Ok(())
-    }
-
-    /// Gives the anchor.
-    fn set_anchor(&mut self, text: &str) -> Result<(), FormFault>
-        ensures adds { OnOk result (Adds fields.Anchor text.now self.old self.new) }
-        ensures refused { IfErr result (IsRefusedIn fields.Anchor text.now self.old) }
-    {
-        if self.anchor.is_some() {
-            return Err(FormFault::Twice(Field::Anchor));
-        }
-        let Some(anchor) = digest_of(text) else {
-            return Err(FormFault::Value(Field::Anchor));
-        };
-        self.anchor = Some(anchor);
-        Ok(())
-    }
-
     /// Gives the purpose.
     fn set_purpose(&mut self, alloc: Global, text: &str) -> Result<(), FormFault>
         ensures adds { OnOk result (Adds fields.Purpose text.now self.old self.new) }
@@ -200,11 +156,11 @@ impl WantedFields {
     {
         match field {
             Field::Chain => self.append(written_in(alloc, text)?),
-            Field::At => self.set_at(text),
-            Field::K => self.set_k(text),
+            Field::At => give_once(field, &mut self.at, moment_of(text)),
+            Field::K => give_once(field, &mut self.k, number_in(text, 0, MAX_POSITION)),
             Field::Policies => Ok(self.policies.push(oid_of(alloc, field, text)?)?),
             Field::Purpose => self.set_purpose(alloc, text),
-            Field::Anchor => self.set_anchor(text),
+            Field::Anchor => give_once(field, &mut self.anchor, digest_of(text)),
             _ => self.set_flag(field, text),
         }
     }

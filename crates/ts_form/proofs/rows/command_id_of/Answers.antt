@@ -1,8 +1,4 @@
 -- One pair, and the digits of its text.
-use Rattle.std.proofs.Common.{◌≡◌, ◌∙◌, refl, sym, ap, ℕ, List, [], ◌∷◌, Option, Some, None, MatchOption, map, codes, string_bytes}
-use Rattle.ts_form.specs.Pairs.{NamedValue, pair_in}
-use Rattle.ts_form.specs.Rows.{NameId}
-use Rattle.ts_literal.specs.Literals.{IsHex}
 use Rattle.ts_form.proofs.Naming.{one_pair, names_id}
 use Rattle.ts_form.proofs.rows.command_id_of.Goals as goal
 

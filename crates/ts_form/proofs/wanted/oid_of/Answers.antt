@@ -1,5 +1,5 @@
 -- What is refused is no dotted form.
-use Rattle.std.proofs.Common.{rules, ◌≡◌, ◌∙◌, refl, sym, ap, Err}
+use Rattle.std.proofs.Common.{◌≡◌, ◌∙◌, refl, sym, ap, Err}
 use Rattle.ts_der.specs.declared.oid_text.OidTextError.TheVariants.{Form}
 use Rattle.ts_form.proofs.wanted.oid_of.Goals as goal
 
