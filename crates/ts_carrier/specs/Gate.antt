@@ -1,10 +1,13 @@
 -- The command of a client that is under way, and when it is proposed. Moments are milliseconds.
-use Rattle.std.specs.Prelude.{◌≡◌, ℕ, Bool, false, List, [], ◌∷◌, ◌+◌, ◌-◌, ◌*◌, ◌%◌, ◌^◌}
-use Rattle.std.specs.Prelude.{◌&&◌, ◌||◌, length, is_some, min, nat_eq, nat_le, nat_lt}
+use Rattle.std.specs.Prelude.{◌≡◌, ℕ, Bool, true, false, List, [], ◌+◌, ◌-◌, ◌%◌, ◌^◌}
+use Rattle.std.specs.Prelude.{◌&&◌, ◌||◌, is_some, min, nat_eq, nat_le, nat_lt}
 use Rattle.std.specs.Prelude.{Option, None, Some, if◌then◌else◌}
 use Rattle.std.specs.Global.{Vec}
+use Rattle.ts_carrier.specs.Event.{event_of, whole_frame}
 use Rattle.ts_carrier.specs.Moment.{later, time_until}
 use Rattle.ts_carrier.specs.Rotation.{pace_after, retry_at, turn_at, with_rival}
+use Rattle.ts_carrier.specs.declared.event.FrameEvent.{FrameEvent}
+use Rattle.ts_carrier.specs.declared.event.FrameEvent.TheVariants.{Submits}
 use Rattle.ts_carrier.specs.declared.gate.Gate.{Gate}
 use Rattle.ts_carrier.specs.declared.gate.WantedCommand.{WantedCommand}
 
@@ -19,12 +22,19 @@ pub record IsNew (own nodes : ℕ) (gate : Gate) : Type 0 where
   pub prefix : gate.prefix ≡ 0
   pub grown : gate.grown ≡ 0
 
--- A whole frame that submits a command begins here: its kind, 10, follows the length of what
--- follows, in four octets, and the version.
+-- a command is submitted
+abbrev pub submits : FrameEvent → Bool
+submits Submits = true
+submits _ = false
+
+-- there is a whole frame, and it submits a command
+abbrev pub is_submit_in : Option (List ℕ) → Bool
+is_submit_in (Some frame) = submits (event_of frame)
+is_submit_in None = false
+
+-- a whole frame that submits a command begins here
 abbrev pub is_submit : List ℕ → Bool
-is_submit (a ∷ b ∷ c ∷ d ∷ version ∷ kind ∷ fields) = nat_eq kind 0x10
-    && nat_le (((a * 256 + b) * 256 + c) * 256 + d) (length fields + 2)
-is_submit other = false
+is_submit held = is_submit_in (whole_frame held)
 
 -- A frame has to wait: it submits a command while another one is under way, or before the node may
 -- take the next. A node that is alone in its group chooses each in its turn, and none waits.
@@ -105,8 +115,8 @@ after_growth gate prefix now =
 abbrev pub after_end : Gate → ℕ → Gate
 after_end gate now = record gate { wanted = None; rests = next_turn gate now }
 
--- how long it is, and at most so long, until the command is proposed again, or until the next one is
--- taken
+-- how long it is, and at most so long, until the command is proposed again, or until the next one
+-- is taken
 abbrev pub time_to_wait : Gate → Option WantedCommand → ℕ → ℕ → ℕ
 time_to_wait gate (Some wanted) now longest = time_until wanted.again now longest
 time_to_wait gate None now longest =

@@ -1,17 +1,27 @@
 -- Frames that wait to be sent to a peer.
-use Rattle.std.specs.Prelude.{◌≡◌, ℕ, List, [], ◌∷◌, ◌++◌, length, drop, nat_le}
-use Rattle.std.specs.Prelude.{if◌then◌else◌}
-use Rattle.std.specs.List.{flat_map}
+use Rattle.std.specs.Prelude.{◌≡◌, ℕ, Bool, List, [], ◌∷◌, ◌++◌, ◌-◌, ◌&&◌, length, nat_le}
+use Rattle.std.specs.Prelude.{if◌then◌else◌, nat_lt}
+use Rattle.std.specs.List.{flat_map, sum_by}
 use Rattle.std.specs.Global.{Vec}
 use Rattle.ts_carrier.specs.declared.mailbox.Mailbox.{Mailbox}
 
--- room for one frame more: of 256 the first goes
-abbrev pub with_room : {A : Type 0} → List A → List A
-with_room frames = if nat_le 256 (length frames) then drop 1 frames else frames
+-- how many octets frames have
+abbrev pub total : List (Vec ℕ) → ℕ
+total frames = sum_by (λ frame. length frame.items) frames
 
--- a frame behind the others
-abbrev pub with_frame : {A : Type 0} → List A → A → List A
-with_frame frames frame = with_room frames ++ frame ∷ []
+-- there is room for one frame more: fewer than 256 wait, and have at most so many octets
+abbrev pub has_room : ℕ → List (Vec ℕ) → Bool
+has_room budget frames = nat_lt (length frames) 256 && nat_le (total frames) budget
+
+-- the frames that are left when the oldest have gone, one after another, until there is room
+abbrev pub with_room : ℕ → List (Vec ℕ) → List (Vec ℕ)
+with_room budget [] = []
+with_room budget (frame ∷ frames) = if has_room budget (frame ∷ frames) then frame ∷ frames
+    else with_room budget frames
+
+-- a frame behind the others, of which so many are left that they all have at most `most` octets
+abbrev pub with_frame : ℕ → List (Vec ℕ) → Vec ℕ → List (Vec ℕ)
+with_frame most frames frame = with_room (most - length frame.items) frames ++ frame ∷ []
 
 -- frames are made ready, one after another, behind the octets that are ready, until 16,384 octets
 -- are; the frames that wait then

@@ -13,7 +13,7 @@ pub const LONGEST_DELAY: u64 = 5_000;
 /// How many milliseconds a peer may take to answer.
 pub const SILENCE: u64 = 5_000;
 
-/// For how many octets that it is sent it has a second more.
+/// A peer has a second more to answer for each so many octets that it was sent.
 const SECOND: u64 = 262_144;
 
 /// How many milliseconds a connection lasts at least for the delay to begin anew.
@@ -50,7 +50,7 @@ fn delay_after(dial: Dial, now: u64) -> u64
 
 /// Whether a peer is silent for too long that was heard last at this moment, and was sent so many
 /// octets since.
-pub fn is_silent(heard: u64, sent: u64, now: u64) -> bool
+pub(crate) fn is_silent(heard: u64, sent: u64, now: u64) -> bool
     ensures { result ≡ is_silent heard sent now }
 {
     now.saturating_sub(heard) >= SILENCE + sent / SECOND * 1_000

@@ -5,6 +5,7 @@ ghost use Rattle.ts_carrier.specs.Gate.{IsNew, Sees, after_end, after_growth, af
 ghost use Rattle.ts_carrier.specs.Gate.{after_try, again_after, due, is_held_back, is_submit};
 ghost use Rattle.ts_carrier.specs.Gate.{new_command, next_turn, renewed, time_to_wait};
 
+use crate::event::{FrameEvent, event_of, whole_frame};
 use crate::rotation::Rotation;
 use std::alloc::{AllocError, Global};
 
@@ -14,9 +15,6 @@ pub const LONGEST_WAY: u64 = 10_000;
 /// How many milliseconds pass, and by chance as many more, before a command is proposed again the
 /// first time; each time twice as many.
 const PATIENCE: u64 = 250;
-
-/// The kind of a frame that submits a command.
-const SUBMIT: u8 = 0x10;
 
 /// A command that was submitted and is not known to be chosen.
 #[derive(Drop)]
@@ -49,13 +47,10 @@ pub struct Gate {
 fn is_submit(held: &[u8]) -> bool
     ensures { result ≡ is_submit held.now }
 {
-    let [a, b, c, d, _version, kind, fields @ ..] = held else {
-        return false;
-    };
-    let high = u32::from(*a) * 256 + u32::from(*b);
-    let low = u32::from(*c) * 256 + u32::from(*d);
-    let size = high * 65_536 + low;
-    *kind == SUBMIT && size as usize <= fields.len() + 2
+    match whole_frame(held) {
+        Some(frame) => event_of(frame) == FrameEvent::Submits,
+        None => false,
+    }
 }
 
 /// When a command is proposed again that was proposed so often.

@@ -1,9 +1,9 @@
 //! Frames that wait to be sent to a peer.
 
-ghost use Rattle.std.specs.Prelude.{◌≡◌, ◌≤◌, ◌<◌, ◌∷◌, ◌++◌, [], length, drop, nat_le};
+ghost use Rattle.std.specs.Prelude.{◌≡◌, ◌≤◌, ◌+◌, ◌-◌, ◌∷◌, ◌++◌, [], length, drop, nat_le};
 ghost use Rattle.std.specs.Prelude.{IfOk, OnOk, OnErr};
-ghost use Rattle.ts_carrier.specs.Mailbox.{OneReady, Same, fill, octets_in, with_frame};
-ghost use Rattle.ts_carrier.specs.Mailbox.{with_room};
+ghost use Rattle.ts_carrier.specs.Mailbox.{OneReady, Same, fill, has_room, octets_in, total};
+ghost use Rattle.ts_carrier.specs.Mailbox.{with_frame, with_room};
 
 use std::alloc::{AllocError, Global};
 use std::collections::VecDeque;
@@ -11,6 +11,13 @@ use ts_queue::Queue;
 
 /// The most whole frames that wait.
 pub const MAX_FRAMES: usize = 256;
+
+/// The most octets of whole frames that wait for a peer that is reached. 32 of the longest commands
+/// are given for one question of a node that catches up, and fit.
+pub const MOST_REACHED: usize = 167_772_160;
+
+/// The most octets of whole frames that wait for a peer that is not.
+pub const MOST_LOST: usize = 16_777_216;
 
 /// How many octets are made ready to be sent, if so many wait.
 const READY: usize = 16_384;
@@ -42,24 +49,60 @@ impl Mailbox {
         self.frames.len()
     }
 
-    /// Puts a frame behind the others. Where [`MAX_FRAMES`] wait the oldest of them goes: whether
-    /// one did.
+    /// Whether the frames that wait have at most so many octets.
+    fn fits(&self, budget: usize) -> bool
+        ensures { result ≡ nat_le (total self.now.frames.items) budget }
+    {
+        let mut left = budget;
+        for frame in self.frames.iter() {
+            match left.checked_sub(frame.len()) {
+                Some(rest) => left = rest,
+                None => return false,
+            }
+        }
+        true
+    }
+
+    /// Whether there is room for one frame more beside those that wait, which may have so many
+    /// octets.
+    fn has_room(&self, budget: usize) -> bool
+        ensures { result ≡ has_room budget self.now.frames.items }
+    {
+        self.frames.len() < MAX_FRAMES && self.fits(budget)
+    }
+
+    /// The oldest frames go, until there is room for one frame more beside those that wait, which
+    /// may have so many octets: how many go.
+    pub fn make_room(&mut self, budget: usize) -> usize
+        ensures frames { self.new.frames.items ≡ with_room budget self.old.frames.items }
+        ensures gone { result + length self.new.frames.items ≡ length self.old.frames.items }
+        ensures ready { self.new.ready ≡ self.old.ready }
+    {
+        let before = self.frames.len();
+        while !self.frames.is_empty() && !self.has_room(budget) {
+            let _oldest = self.frames.pop_front();
+        }
+        before - self.frames.len()
+    }
+
+    /// Puts a frame behind the others. Where there is no room for it, as [`MAX_FRAMES`] wait, or it
+    /// and those that wait have more than `most` octets, the oldest of them go: how many do.
     ///
     /// # Errors
     ///
-    /// Memory that is refused. The frame is lost then, and so is the oldest where one had to go.
-    pub fn put(&mut self, frame: Vec<u8>) -> Result<bool, AllocError>
-        ensures put { OnOk result (self.new.frames.items ≡ with_frame self.old.frames.items frame) }
-        ensures gone { IfOk result (λ gone. gone ≡ nat_le 256 (length self.old.frames.items)) }
-        ensures lost { OnErr result (self.new.frames.items ≡ with_room self.old.frames.items) }
+    /// Memory that is refused. The frame is lost then, and so are those that had to go.
+    pub fn put(&mut self, frame: Vec<u8>, most: usize) -> Result<usize, AllocError>
+        ensures put { OnOk result
+            (self.new.frames.items ≡ with_frame most self.old.frames.items frame) }
+        ensures gone { IfOk result (λ gone.
+            gone + length self.new.frames.items ≡ length self.old.frames.items + 1) }
+        ensures lost { OnErr result (self.new.frames.items
+            ≡ with_room (most - length frame.items) self.old.frames.items) }
         ensures ready { self.new.ready ≡ self.old.ready }
     {
-        let is_full = self.frames.len() >= MAX_FRAMES;
-        if is_full {
-            let _oldest = self.frames.pop_front();
-        }
+        let gone = self.make_room(most.saturating_sub(frame.len()));
         self.frames.push_back(frame)?;
-        Ok(is_full)
+        Ok(gone)
     }
 
     /// Makes octets ready to be sent before all frames that wait.

@@ -1,1 +1,4 @@
+pub mod Events
 pub mod Frames
+pub mod Hearing
+pub mod Waiting

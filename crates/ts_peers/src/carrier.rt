@@ -1,11 +1,17 @@
 //! What a loop carries: the node's messages to itself, which it is handed at once, and those to its
 //! peers, which wait on a line each.
 
+ghost use Rattle.std.specs.Prelude.{◌≡◌, ◌⊎◌, ◌<◌, ◌∷◌, ◌++◌, ℕ, Bool, IfSome, List, [], length};
+ghost use Rattle.std.specs.Prelude.{map, slice_index_or, true};
+ghost use Rattle.ts_carrier.specs.declared.event.FrameEvent.TheVariants.{Submits};
 ghost use Rattle.ts_links.specs.Calls.{HasReached};
+ghost use Rattle.ts_peers.specs.Events.{HasSeen, IsAfter, IsRefused};
+ghost use Rattle.ts_peers.specs.Waiting.{HasSorted, all_lines_pass};
+ghost use Rattle.ts_peers.specs.declared.line.Line.{Line};
 
 use crate::asking::ask;
 use crate::frames::{is_settled, messages_in, octets_of, outcome_of, prefix_of};
-use crate::line::{Line, LineChange};
+use crate::line::{Line, LineChange, LineRound};
 use crate::senders::{Sender, Senders};
 use crate::telling::{MOST, log_frame, tell_rows};
 use mio::event::Event;
@@ -16,11 +22,12 @@ use std::alloc::Global;
 use std::net::{Net, SocketAddr};
 use std::random::RandomSource;
 use ts_access::Key;
-use ts_carrier::Gate;
+use ts_carrier::{FrameEvent, Gate, event_of, whole_frame};
+use ts_command::Command;
 use ts_links::{Connections, Service};
 use ts_node::Identity;
 use ts_sockets::PIECE;
-use ts_synod::Body;
+use ts_synod::{Body, Message};
 use ts_wire::Frame;
 
 /// The token of the first peer's line. The others follow.
@@ -34,21 +41,6 @@ const CATCH_UP: [u8; 6] = [0, 0, 0, 2, 2, 0x14];
 
 /// The frame Status, by which a node is asked how many commands it knows.
 const STATUS: [u8; 6] = [0, 0, 0, 2, 2, 0x15];
-
-/// Where the kind stands in a frame.
-const KIND: usize = 5;
-
-/// Where the node stands in a message that it is from.
-const FROM: usize = 6;
-
-/// The kind of a frame that submits a command.
-const SUBMIT: u8 = 0x10;
-
-/// The kind of a message that begins a round.
-const PREPARE: u8 = 0x01;
-
-/// The kind of a message that says that a round was refused.
-const BUSY: u8 = 0x03;
 
 /// How often in a round a node is handed the messages to itself that it made last.
 const STEPS: u32 = 64;
@@ -133,85 +125,121 @@ impl Carrier {
 
     /// The frame that begins here is taken next of a slot, if it is whole: it may be a client's
     /// command, or say that a round of the one that is under way was refused.
-    pub fn see(&mut self, held: &[u8], slot: usize, from: SocketAddr, now: u64) {
+    pub fn see(&mut self, held: &[u8], slot: usize, from: SocketAddr, now: u64)
+        ensures { HasSeen self.old.carries held.now now self.old.gate self.new.gate }
+    {
         let Some(frame) = whole_frame(held) else {
             return;
         };
-        let kind = frame.get(KIND);
-        if kind == Some(&SUBMIT) {
+        let event = event_of(frame);
+        if event == FrameEvent::Submits {
             self.senders.see(frame, Sender::At(from));
+            self.last = slot;
         }
-        if !self.carries {
-            return;
-        }
-        match kind {
-            Some(&SUBMIT) => {
-                self.last = slot;
-                self.begin(frame, now);
-            }
-            Some(&PREPARE) => self.see_rival(frame, now),
-            Some(&BUSY) => self.refuse(now),
-            _ => {}
+        if self.carries {
+            self.take_event(frame, event, now);
         }
     }
 
     /// The frame is taken next for a request of HTTP: it may be a client's command.
-    pub fn see_http(&mut self, frame: &[u8], now: u64) {
-        if frame.get(KIND) != Some(&SUBMIT) {
+    pub fn see_http(&mut self, frame: &[u8], now: u64)
+        ensures { HasSeen self.old.carries frame.now now self.old.gate self.new.gate }
+    {
+        let Some(frame) = whole_frame(frame) else {
             return;
+        };
+        let event = event_of(frame);
+        if event == FrameEvent::Submits {
+            self.senders.see(frame, Sender::Http);
+            self.more = self.more || self.carries;
         }
-        self.senders.see(frame, Sender::Http);
         if self.carries {
-            self.begin(frame, now);
-            self.more = true;
+            self.take_event(frame, event, now);
         }
     }
 
-    /// A client's command is taken by this frame.
-    fn begin(&mut self, frame: &[u8], now: u64) {
+    /// A frame is taken that says this.
+    fn take_event(&mut self, frame: &[u8], event: FrameEvent, now: u64)
+        ensures { IsAfter event frame.now now self.old.gate self.new.gate }
+    {
+        match event {
+            FrameEvent::Submits => self.begin(frame, now),
+            // Without memory nodes have no turns for a while.
+            FrameEvent::Begins { node } => {
+                let _seen = self.gate.see_rival(self.alloc, node, now);
+            }
+            FrameEvent::Refuses => self.refuse(now),
+            FrameEvent::Other => {}
+        }
+    }
+
+    /// A client's command is taken by this frame. Without memory nothing looks after it.
+    fn begin(&mut self, frame: &[u8], now: u64)
+        ensures { IsAfter Submits frame.now now self.old.gate self.new.gate }
+    {
         if let Ok(frame) = Vec::from_slice(self.alloc, frame) {
             let chance = self.chances.next_u64();
             self.gate.begin(frame, now, chance);
         }
     }
 
-    /// Another node begins a round by this frame. Without memory nodes have no turns for a while.
-    fn see_rival(&mut self, frame: &[u8], now: u64) {
-        if let Some(&node) = frame.get(FROM) {
-            let _seen = self.gate.see_rival(self.alloc, node, now);
-        }
-    }
-
     /// A round of the command that is under way was refused.
-    fn refuse(&mut self, now: u64) {
+    fn refuse(&mut self, now: u64)
+        ensures refused { IsRefused now self.old.gate self.new.gate }
+        ensures lines { self.new.lines ≡ self.old.lines }
+    {
         let chance = self.chances.next_u64();
         self.gate.refuse(now, chance);
     }
 
-    /// Puts a message on the line to its node. Without one it is lost.
-    fn hand_on(&mut self, node: u8, frame: Vec<u8>) {
-        for line in self.lines.iter_mut() {
-            if line.node == node {
-                line.put(frame);
-                return;
+    /// The place of the line to a node.
+    fn place_of(&self, node: u8) -> Option<usize>
+        ensures { IfSome result (λ place. (place < length self.now.lines.items)
+            × ((d : Line) → (slice_index_or self.now.lines.items place d).node ≡ node)) }
+    {
+        for place in 0..self.lines.len() {
+            if self.lines[place].node == node {
+                return Some(place);
             }
+        }
+        None
+    }
+
+    /// Puts a message on the line to its node. Without one it is lost.
+    fn hand_on(&mut self, node: u8, frame: Vec<u8>)
+        ensures { (test : ℕ → List ℕ → Bool) → all_lines_pass test self.old.lines.items ≡ true
+            → test node frame.items ≡ true
+            → all_lines_pass test self.new.lines.items ≡ true }
+    {
+        if let Some(place) = self.place_of(node) {
+            self.lines[place].put(frame);
+        }
+    }
+
+    /// A message of the node: it may have refused a round of its own.
+    fn see_message(&mut self, message: &Message<Command>, now: u64)
+        ensures lines { self.new.lines ≡ self.old.lines }
+    {
+        if message.from == message.to && matches!(message.body, Body::Busy { .. }) {
+            self.refuse(now);
         }
     }
 
     /// Takes the messages that wait at the node. Those to itself are given, in their frames; the
     /// others wait on their lines then.
-    fn sort(&mut self, given: &[u8], now: u64) -> Vec<Vec<u8>> {
+    fn sort(&mut self, given: &[u8], now: u64) -> Vec<Vec<u8>>
+        ensures { HasSorted given.now self.old.lines.items self.new.lines.items
+            (map (λ frame. frame.items) result.items) }
+    {
         let mut own = Vec::new(self.alloc);
         for message in messages_in(self.alloc, given) {
             let (from, to) = (message.from, message.to);
-            if from == to && matches!(message.body, Body::Busy { .. }) {
-                self.refuse(now);
-            }
+            self.see_message(&message, now);
             let Some(frame) = octets_of(self.alloc, Frame::Peer(message)) else {
                 continue;
             };
             if from == to {
-                let _pushed = own.push(frame);
+                add_frame(&mut own, frame);
             } else {
                 self.hand_on(to, frame);
             }
@@ -220,11 +248,12 @@ impl Carrier {
     }
 }
 
-/// The frame that begins here, if it is whole.
-fn whole_frame(held: &[u8]) -> Option<&[u8]> {
-    let (head, _) = held.split_first_chunk::<4>()?;
-    let end = 4 + u32::from_be_bytes(*head) as usize;
-    held.get(..end)
+/// Puts a frame behind others. Without memory it is lost.
+fn add_frame(frames: &mut Vec<Vec<u8>>, frame: Vec<u8>)
+    ensures { (frames.new.items ≡ frames.old.items ++ frame ∷ [])
+        ⊎ (frames.new.items ≡ frames.old.items) }
+{
+    let _pushed = frames.push(frame);
 }
 
 /// Hands a node these messages, one after another.
@@ -338,7 +367,7 @@ impl Carrier {
     fn is_behind(&self, now: u64) -> bool {
         let prefix = self.gate.prefix();
         now.saturating_sub(self.gate.grown().max(self.urged)) >= BEHIND
-            && self.lines.iter().any(|line| line.prefix > prefix)
+            && self.lines.iter().any(|line| line.contact().prefix > prefix)
     }
 
     /// Tells the node to catch up, if it is behind.
@@ -389,8 +418,8 @@ impl Carrier {
         self.more
     }
 
-    /// How many milliseconds the loop may wait, and at most `longest`, for the command that is under
-    /// way, or for the next one.
+    /// How many milliseconds the loop may wait, and at most `longest`, for the command that is
+    /// under way, or for the next one.
     pub fn patience(&self, now: u64, longest: u64) -> u64 {
         self.gate.patience(now, longest)
     }
@@ -440,12 +469,17 @@ impl Carrier {
         requires { S.is_kept service.now }
     {
         for place in 0..self.lines.len() {
-            let chance = self.chances.next_u64();
+            let round = LineRound {
+                registry,
+                token: Token(PEERS.saturating_add(place)),
+                own,
+                now,
+                chance: self.chances.next_u64(),
+            };
             let Some(line) = self.lines.get_mut(place) else {
                 return;
             };
-            let token = Token(PEERS.saturating_add(place));
-            let change = line.tend(rt, service, registry, token, own, buffer, now, chance);
+            let change = line.tend(rt, service, buffer, round);
             if self.tells {
                 tell(rt, line.node, change);
             }

@@ -17,6 +17,11 @@
 //!   `ts_links` are made (`HasReached`): quiet ones, and turns of the node.
 //! - [`first_of`]: the frame that octets begin with (`BeginsWith` in `specs/Frames`). Of octets
 //!   that the node gave only such messages are carried as they begin with, in their order.
+//! - Before a peer has said on a connection that it is the node that is meant, no message is made
+//!   ready to be written to it (`make_ready` of `line.rt`). What each answer says is one definition
+//!   (`specs/Hearing`), and so is what each frame does to the command that is under way
+//!   (`specs/Events`). What waits for the peers is what the node gave, and questions how many
+//!   commands they know (`specs/Waiting`).
 //! - What is written to a peer passes `Socket::write` of `ts_sockets`, whose condition is that what
 //!   was answered is kept; so it is one of [`Carrier::tend`].
 //!
@@ -30,6 +35,7 @@ mod asking;
 mod carrier;
 mod frames;
 mod group;
+mod hearing;
 mod line;
 mod seal;
 mod senders;

@@ -1,5 +1,9 @@
 //! The line to a peer: a connection that is made, used and made again.
 
+ghost use Rattle.std.specs.Prelude.{◌≡◌, ℕ, Bool, List, false, true};
+ghost use Rattle.ts_peers.specs.Waiting.{all_pass};
+
+use crate::hearing::{identity_in, take_answer};
 use crate::seal::Seal;
 use mio::event::Event;
 use mio::net::TcpStream;
@@ -8,7 +12,7 @@ use std::alloc::Global;
 use std::net::{Net, SocketAddr};
 use std::random::RandomSource;
 use ts_access::Key;
-use ts_carrier::{Dial, Mailbox, Phase, SILENCE, is_silent};
+use ts_carrier::{Contact, ContactEnd, Dial, MOST_LOST, MOST_REACHED, Mailbox, Phase, SILENCE};
 use ts_links::Service;
 use ts_node::Identity;
 use ts_sockets::{PIECE, Socket};
@@ -19,9 +23,6 @@ const IDENTIFY: [u8; 6] = [0, 0, 0, 2, 2, 0x17];
 
 /// The frame Status, by which a peer is asked how many commands it knows.
 const STATUS: [u8; 6] = [0, 0, 0, 2, 2, 0x15];
-
-/// How many milliseconds pass until a peer is asked again how many commands it knows.
-const BEAT: u64 = 1_000;
 
 /// The most reads and writes of a line in one round.
 const CALLS: u32 = 16;
@@ -41,6 +42,19 @@ pub(crate) enum LineChange {
     Stranger(Identity),
 }
 
+/// What a round of a line has at hand.
+#[derive(Clone, Copy)]
+pub(crate) struct LineRound<'a> {
+    pub registry: &'a Registry,
+    pub token: Token,
+    /// The key that the node shows, if it has one.
+    pub own: &'a Option<Key>,
+    /// The moment, in milliseconds.
+    pub now: u64,
+    /// Any number.
+    pub chance: u64,
+}
+
 /// The line to a peer.
 #[derive(Drop)]
 pub struct Line {
@@ -55,22 +69,10 @@ pub struct Line {
     socket: Option<Socket>,
     seal: Option<Seal>,
     answers: Feed,
-    /// When the peer was last asked how many commands it knows.
-    asked: u64,
-    /// When octets last came from it, or a connection to it was made last.
-    pub heard: u64,
-    /// How many octets were written to it since.
-    sent: u64,
-    /// Whether it is the node that is meant, by its answer on this connection.
-    is_met: bool,
-    /// Which node it is, if it is another one.
+    /// What is known of the peer.
+    contact: Contact,
+    /// Which node it is, if it is another one than is meant.
     stranger: Option<Identity>,
-    /// Whether it has said on this connection how many commands it knows.
-    is_known: bool,
-    /// Whether it was said that it ended a connection before it answered, or is another node.
-    is_told: bool,
-    /// How many commands it has said that it knows.
-    pub prefix: u32,
     /// How many messages to it were dropped.
     pub dropped: u64,
 }
@@ -88,29 +90,46 @@ impl Line {
             socket: None,
             seal: None,
             answers: Feed::new(alloc),
-            asked: 0,
-            heard: 0,
-            sent: 0,
-            is_met: false,
+            contact: Contact::new(),
             stranger: None,
-            is_known: false,
-            is_told: false,
-            prefix: 0,
             dropped: 0,
         }
     }
 
-    /// Puts a frame behind those that wait for the peer.
-    pub(crate) fn put(&mut self, frame: Vec<u8>) {
-        match self.mailbox.put(frame) {
-            Ok(false) => {}
-            Ok(true) | Err(_) => self.dropped = self.dropped.saturating_add(1),
+    /// The most octets of messages that wait: for a peer that is lost far fewer.
+    fn most(&self) -> usize {
+        if self.contact.is_met {
+            MOST_REACHED
+        } else {
+            MOST_LOST
         }
     }
 
-    /// Whether the peer has answered on the connection that is there.
-    pub fn is_known(&self) -> bool {
-        self.is_known
+    /// So many messages were dropped.
+    fn count_dropped(&mut self, count: usize)
+        ensures { self.new ≡ record self.old { dropped = self.new.dropped } }
+    {
+        self.dropped = self.dropped.saturating_add(count as u64);
+    }
+
+    /// Puts a frame behind those that wait for the peer. Without memory it is dropped.
+    pub(crate) fn put(&mut self, frame: Vec<u8>)
+        ensures node { self.new.node ≡ self.old.node }
+        ensures passes { (test : ℕ → List ℕ → Bool) → all_pass test self.old ≡ true
+            → test self.old.node frame.items ≡ true → all_pass test self.new ≡ true }
+    {
+        let waiting = self.mailbox.len();
+        let most = self.most();
+        let gone = match self.mailbox.put(frame, most) {
+            Ok(gone) => gone,
+            Err(_) => waiting.saturating_sub(self.mailbox.len()).saturating_add(1),
+        };
+        self.count_dropped(gone);
+    }
+
+    /// What is known of the peer.
+    pub fn contact(&self) -> Contact {
+        self.contact
     }
 
     /// How many messages wait for the peer.
@@ -126,44 +145,36 @@ impl Line {
     }
 
     /// The connection is lost, or was not made.
-    fn lose(&mut self, now: u64, chance: u64) -> LineChange {
+    fn lose(&mut self, round: LineRound<'_>) -> LineChange {
         let was_up = matches!(self.dial.phase, Phase::Up { .. });
         self.socket = None;
         self.seal = None;
-        self.mailbox.cut();
         self.answers = Feed::new(self.alloc);
-        self.is_met = false;
-        self.dial.lose(now, chance);
-        if self.is_known {
-            self.is_known = false;
-            return LineChange::Lost;
-        }
-        if !was_up || self.is_told {
-            return LineChange::None;
-        }
-        self.is_told = true;
-        match self.stranger {
-            Some(identity) => LineChange::Stranger(identity),
-            None => LineChange::Refused,
+        self.mailbox.cut();
+        let dropped = self.mailbox.make_room(MOST_LOST);
+        self.count_dropped(dropped);
+        self.dial.lose(round.now, round.chance);
+        match (self.contact.end(was_up), self.stranger) {
+            (ContactEnd::Quiet, _) => LineChange::None,
+            (ContactEnd::Lost, _) => LineChange::Lost,
+            (ContactEnd::Unanswered, Some(identity)) => LineChange::Stranger(identity),
+            (ContactEnd::Unanswered, None) => LineChange::Refused,
         }
     }
 
     /// Begins to connect.
-    fn dial<N: Net>(
-        &mut self,
-        net: &N,
-        registry: &Registry,
-        token: Token,
-        now: u64,
-        chance: u64,
-    ) -> LineChange {
-        self.dial.begin(now);
+    fn dial<N: Net>(&mut self, net: &N, round: LineRound<'_>) -> LineChange {
+        self.dial.begin(round.now);
         let both = Interest::READABLE | Interest::WRITABLE;
         let Ok(mut stream) = TcpStream::connect(net, self.address) else {
-            return self.lose(now, chance);
+            return self.lose(round);
         };
-        if registry.register(&mut stream, token, both).is_err() {
-            return self.lose(now, chance);
+        if round
+            .registry
+            .register(&mut stream, round.token, both)
+            .is_err()
+        {
+            return self.lose(round);
         }
         self.socket = Some(Socket::dialed(stream));
         LineChange::None
@@ -189,73 +200,56 @@ impl Line {
     fn finish(
         &mut self,
         source: &impl RandomSource,
-        own: &Option<Key>,
         since: u64,
-        now: u64,
-        chance: u64,
+        round: LineRound<'_>,
     ) -> LineChange {
         if !self.is_writable() {
-            if now.saturating_sub(since) < SILENCE {
+            if round.now.saturating_sub(since) < SILENCE {
                 return LineChange::None;
             }
-            return self.lose(now, chance);
+            return self.lose(round);
         }
         if !self.is_made() {
-            return self.lose(now, chance);
+            return self.lose(round);
         }
-        if let Some(key) = own {
+        if let Some(key) = round.own {
             self.seal = Seal::new(source, self.alloc, key);
             if self.seal.is_none() {
-                return self.lose(now, chance);
+                return self.lose(round);
             }
         }
         if self.mailbox.begin(&IDENTIFY).is_err() {
-            return self.lose(now, chance);
+            return self.lose(round);
         }
-        self.dial.reach(now);
-        self.heard = now;
-        self.sent = 0;
-        self.asked = now;
+        self.dial.reach(round.now);
+        self.contact.reach(round.now);
         self.stranger = None;
         LineChange::None
     }
 
-    /// The peer says which node it is: whether it is the one that is meant. It is asked then how
-    /// many commands it knows, and gets what waits for it.
-    fn meet(&mut self, identity: Identity, now: u64) -> bool {
-        self.is_met = identity == self.expected;
-        if !self.is_met {
-            self.stranger = Some(identity);
-            return false;
-        }
-        self.ask_prefix(now);
-        true
-    }
-
     /// Asks the peer how many commands it knows.
     fn ask_prefix(&mut self, now: u64) {
-        self.asked = now;
+        self.contact.ask(now);
         if let Ok(frame) = Vec::from_slice(self.alloc, &STATUS) {
             self.put(frame);
         }
     }
 
     /// Takes an answer. `false` where it is none that a node gives to a message, or the peer is
-    /// another node than was meant.
+    /// another node than is meant. Once it says that it is that node, it is asked how many commands
+    /// it knows, and gets what waits for it.
     fn take_answer(&mut self, answer: &Frame, now: u64) -> bool {
-        match answer {
-            Frame::Identity { node, nodes, group } => {
-                let (node, nodes, group) = (*node, *nodes, *group);
-                self.meet(Identity { node, nodes, group }, now)
-            }
-            Frame::Prefix { prefix } if self.is_met => {
-                self.prefix = *prefix;
-                self.is_known = true;
-                true
-            }
-            Frame::Done { .. } | Frame::NodeFault { .. } => self.is_met,
-            _ => false,
+        let is_right = take_answer(&mut self.contact, self.expected, answer);
+        let identity = identity_in(answer);
+        if identity.is_none() {
+            return is_right;
         }
+        if is_right {
+            self.ask_prefix(now);
+        } else {
+            self.stranger = identity;
+        }
+        is_right
     }
 
     /// Takes the answers that are whole. `false` where the connection is over.
@@ -318,8 +312,7 @@ impl Line {
                 return false;
             };
             if count > 0 {
-                self.heard = now;
-                self.sent = 0;
+                self.contact.hear(now);
                 if !self.take_in(&buffer[..count], now) {
                     return false;
                 }
@@ -328,10 +321,13 @@ impl Line {
         true
     }
 
-    /// Makes octets ready to be written: before the peer has said which node it is, nothing but the
-    /// question for that. `false` where they can't be.
-    fn make_ready(&mut self) -> bool {
-        if self.is_met && self.mailbox.fill().is_err() {
+    /// Makes octets ready to be written: before the peer has said that it is the node that is
+    /// meant, nothing but the question for that. `false` where they can't be.
+    fn make_ready(&mut self) -> bool
+        ensures unmet { self.old.contact.is_met ≡ false
+            → self.new.mailbox.frames ≡ self.old.mailbox.frames }
+    {
+        if self.contact.is_met && self.mailbox.fill().is_err() {
             return false;
         }
         match &mut self.seal {
@@ -361,7 +357,7 @@ impl Line {
                 return false;
             };
             seal.out.skip(count);
-            self.sent = self.sent.saturating_add(count as u64);
+            self.contact.write(count);
             return true;
         }
         let octets = self.mailbox.octets();
@@ -369,7 +365,7 @@ impl Line {
             return false;
         };
         self.mailbox.sent(count);
-        self.sent = self.sent.saturating_add(count as u64);
+        self.contact.write(count);
         true
     }
 
@@ -401,9 +397,7 @@ impl Line {
     ) -> bool
         requires { S.is_kept service.now }
     {
-        self.read_all(buffer, now)
-            && !is_silent(self.heard, self.sent, now)
-            && self.write_all(service)
+        self.read_all(buffer, now) && !self.contact.is_silent(now) && self.write_all(service)
     }
 
     /// Looks after a connection that is there.
@@ -411,46 +405,38 @@ impl Line {
         &mut self,
         service: &S,
         buffer: &mut [u8; PIECE],
-        now: u64,
-        chance: u64,
+        round: LineRound<'_>,
     ) -> LineChange
         requires { S.is_kept service.now }
     {
-        if self.is_met && now.saturating_sub(self.asked) >= BEAT && self.heard >= self.asked {
-            self.ask_prefix(now);
+        if self.contact.is_to_ask(round.now) {
+            self.ask_prefix(round.now);
         }
-        let was_known = self.is_known;
-        if !self.read_and_write(service, buffer, now) {
-            return self.lose(now, chance);
+        let was_known = self.contact.is_known;
+        if !self.read_and_write(service, buffer, round.now) {
+            return self.lose(round);
         }
-        if self.is_known && !was_known {
-            self.is_told = false;
+        if self.contact.is_known && !was_known {
             return LineChange::Reached;
         }
         LineChange::None
     }
 
-    /// One round of the line: it is dialed, looked after, read and written. `chance` is any number.
+    /// One round of the line: it is dialed, looked after, read and written.
     pub(crate) fn tend<S: Service, N: Net + RandomSource>(
         &mut self,
         net: &N,
         service: &S,
-        registry: &Registry,
-        token: Token,
-        own: &Option<Key>,
         buffer: &mut [u8; PIECE],
-        now: u64,
-        chance: u64,
+        round: LineRound<'_>,
     ) -> LineChange
         requires { S.is_kept service.now }
     {
         match self.dial.phase {
-            Phase::Down { .. } if self.dial.is_due(now) => {
-                self.dial(net, registry, token, now, chance)
-            }
+            Phase::Down { .. } if self.dial.is_due(round.now) => self.dial(net, round),
             Phase::Down { .. } => LineChange::None,
-            Phase::Dialing { since } => self.finish(net, own, since, now, chance),
-            Phase::Up { .. } => self.exchange(service, buffer, now, chance),
+            Phase::Dialing { since } => self.finish(net, since, round),
+            Phase::Up { .. } => self.exchange(service, buffer, round),
         }
     }
 }

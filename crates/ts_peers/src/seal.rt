@@ -1,6 +1,8 @@
 //! The seal of a line to a peer: what is sent is sealed with the node's own key, and what comes is
 //! opened.
 
+ghost use Rattle.std.specs.Prelude.{◌≡◌};
+
 use std::alloc::Global;
 use std::random::RandomSource;
 use ts_access::{EntranceFault, Key, Visitor};
@@ -44,7 +46,9 @@ impl Seal {
 
     /// Seals octets that are ready to be sent, if none is ready to be written yet: at most one
     /// record. `false` where they can't be sealed.
-    pub fn seal(&mut self, mailbox: &mut Mailbox) -> bool {
+    pub fn seal(&mut self, mailbox: &mut Mailbox) -> bool
+        ensures { mailbox.new.frames ≡ mailbox.old.frames }
+    {
         let count = mailbox.octets().len().min(MAX_CONTENT);
         if count == 0 || self.out.len() > 0 || !self.visitor.has_begun() {
             return true;
