@@ -1,5 +1,8 @@
 //! A file of keys, read again where it has changed.
 
+ghost use Rattle.std.specs.Prelude.{◌≡◌, false};
+ghost use Rattle.ts_keyring.specs.Keyring.{after_reading, is_due};
+
 use std::alloc::{AllocError, Global};
 use std::io::Read;
 use std::rt::Files;
@@ -92,38 +95,65 @@ impl Keyring {
     }
 
     /// The keys.
-    pub fn keys(&self) -> &[Key] {
+    pub fn keys(&self) -> &[Key]
+        ensures { result.now ≡ self.now.keys.items }
+    {
         &self.keys
     }
 
-    /// Reads the file again, if a second has gone since it was looked at and it has changed since its
-    /// keys were read. Where it can't be read, or a line is no key, the keys stay, and it is read
-    /// again a second later: it may be readable then, without a change. Standard error is told of
-    /// both, and of a file that can't be used once for each change of it.
-    pub fn refresh<R: Files + Eprint>(&mut self, rt: &R, alloc: Global, now: u64) {
-        if now.saturating_sub(self.looked) < LOOK {
-            return;
-        }
-        self.looked = now;
-        let path = self.path.as_str();
-        let changed = time_of_change(rt, path);
-        if changed == self.changed {
-            return;
-        }
-        let read = read_key_file(rt, alloc, path);
-        let _told = match read {
-            Ok(keys) => {
-                let count = keys.len();
+    /// Whether it is time to look at the file: a second has gone since it was looked at.
+    fn is_due(&self, now: u64) -> bool
+        ensures { result ≡ is_due self.now now }
+    {
+        now.saturating_sub(self.looked) >= LOOK
+    }
+
+    /// Whether the file was changed since the keys were read of it.
+    fn has_changed(&self, changed: Option<SystemTime>) -> bool
+        ensures { result ≡ false → self.now.changed ≡ changed }
+    {
+        changed != self.changed
+    }
+
+    /// The file, changed last at this moment, was read, and has these keys; or it can't be used,
+    /// and the keys stay.
+    fn take(&mut self, changed: Option<SystemTime>, read: Option<Vec<Key>>)
+        ensures { self.new ≡ after_reading self.old changed read }
+    {
+        match read {
+            Some(keys) => {
                 self.keys = keys;
                 self.changed = changed;
                 self.unusable = None;
-                eprintln!(rt; "trustd: {path}: read again, {count} keys")
             }
-            Err(_) if self.unusable == Some(changed) => Ok(()),
-            Err(_) => {
-                self.unusable = Some(changed);
-                eprintln!(rt; "trustd: {path}: can't be used; the keys stay as they were")
-            }
-        };
+            None => self.unusable = Some(changed),
+        }
+    }
+
+    /// Reads the file again, if a second has gone since it was looked at and it has changed since
+    /// its keys were read. Where it can't be read, or a line is no key, the keys stay, and it is
+    /// read again a second later: it may be readable then, without a change. Standard error is told
+    /// of both, and of a file that can't be used once for each change of it.
+    pub fn refresh<R: Files + Eprint>(&mut self, rt: &R, alloc: Global, now: u64)
+        ensures { is_due self.old now ≡ false → self.new ≡ self.old }
+    {
+        if !self.is_due(now) {
+            return;
+        }
+        self.looked = now;
+        let changed = time_of_change(rt, self.path.as_str());
+        if !self.has_changed(changed) {
+            return;
+        }
+        let is_told = self.unusable == Some(changed);
+        let read = read_key_file(rt, alloc, self.path.as_str()).ok();
+        let can_be_used = read.is_some();
+        self.take(changed, read);
+        let (path, count) = (self.path.as_str(), self.keys.len());
+        if can_be_used {
+            let _ = eprintln!(rt; "trustd: {path}: read again, {count} keys");
+        } else if !is_told {
+            let _ = eprintln!(rt; "trustd: {path}: can't be used; the keys stay as they were");
+        }
     }
 }

@@ -5,8 +5,10 @@
 //! let limits = Limits::usual();
 //! let group = Group { carries: true, peers, tells: true };      // peers: node and address of each
 //! let (keyring, own, http) = (Some(keyring), Some(key), None);
-//! let (meter, about) = (None, None);
-//! let mut access = Access { node: 1, keyring, own, open: false, http, meter, about };
+//! let (meter, version, about, greeting) = (None, None, None, None);
+//! let mut access = Access {
+//!     node: 1, keyring, own, open: false, http, meter, version, about, greeting,
+//! };
 //! let at = "10.0.0.1:7001";
 //! let counts = serve_all(&rt, alloc, &mut server, at, &limits, &group, &mut access)?;
 //! ```
@@ -59,6 +61,7 @@ mod pumping;
 mod reporting;
 mod rounds;
 mod serving;
+mod shared;
 mod showing;
 mod watch;
 mod web;

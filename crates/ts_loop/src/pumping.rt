@@ -5,13 +5,14 @@ ghost use Rattle.std.specs.Prelude.{◌≡◌, length, nat_le};
 ghost use Rattle.ts_links.specs.Calls.{HasReached, IsQuiet};
 ghost use Rattle.ts_links.specs.Table.{waits_at};
 
+use crate::shared::Shared;
 use crate::watch::{Watch, kind_at, moment};
+use std::alloc::Global;
 use std::net::SocketAddr;
 use std::rt::Clock;
 use ts_access::Key;
 use ts_links::reaching::take_some;
 use ts_links::{Connections, MAX_WAITING, Service, Stage};
-use ts_peers::Carrier;
 use ts_sockets::{Door, PIECE, finish, read_once, shut_if_done, write_last};
 
 /// The most requests of one connection that are taken before the others have their turn.
@@ -21,6 +22,7 @@ const TURNS: u32 = 64;
 #[derive(Clone, Copy)]
 pub(crate) struct Round<'a, R> {
     pub rt: &'a R,
+    pub alloc: Global,
     pub keys: &'a [Key],
     /// The moment, in milliseconds since the loop began.
     pub now: u64,
@@ -112,20 +114,20 @@ fn take_one<S: Service, R: Clock>(
     round: &Round<'_, R>,
     table: &mut Connections,
     service: &mut S,
-    carrier: &mut Carrier,
+    shared: &mut Shared,
     slot: usize,
     from: SocketAddr,
-    watch: &mut Watch,
 ) -> (u32, bool)
     requires { S.is_ready service.old }
     ensures reached { HasReached S.turn S.keeps service.old table.old service.new table.new }
     ensures ready { S.is_ready service.new }
 {
+    let carrier = &mut shared.carrier;
     if has_no_room(table, slot) || carrier.holds_back(table.octets_held(slot), round.now) {
         return (0, true);
     }
     carrier.see(table.octets_held(slot), slot, from, round.now);
-    take_next(round, table, service, slot, watch)
+    take_next(round, table, service, slot, &mut shared.watch)
 }
 
 /// Takes requests of a connection, up to one that has to wait. How many, and whether memory was
@@ -134,17 +136,16 @@ fn take_turns<S: Service, R: Clock>(
     round: &Round<'_, R>,
     table: &mut Connections,
     service: &mut S,
-    carrier: &mut Carrier,
+    shared: &mut Shared,
     slot: usize,
     from: SocketAddr,
-    watch: &mut Watch,
 ) -> (u32, bool)
     requires { S.is_ready service.old }
     ensures reached { HasReached S.turn S.keeps service.old table.old service.new table.new }
     ensures ready { S.is_ready service.new }
 {
     for turns in 0..TURNS {
-        let (taken, good) = take_one(round, table, service, carrier, slot, from, watch);
+        let (taken, good) = take_one(round, table, service, shared, slot, from);
         if taken == 0 || !good {
             return (turns, good);
         }
@@ -157,11 +158,10 @@ pub(crate) fn begin<S: Service, R: Clock>(
     round: &Round<'_, R>,
     table: &mut Connections,
     service: &mut S,
-    carrier: &mut Carrier,
+    shared: &mut Shared,
     door: &mut Door,
     slot: usize,
     buffer: &mut [u8; PIECE],
-    watch: &mut Watch,
 )
     requires { S.is_ready service.old }
     ensures reached { HasReached S.turn S.keeps service.old table.old service.new table.new }
@@ -174,11 +174,14 @@ pub(crate) fn begin<S: Service, R: Clock>(
         return;
     }
     let from = door.from;
-    let (taken, good) = take_turns(round, table, service, carrier, slot, from, watch);
+    let (taken, good) = take_turns(round, table, service, shared, slot, from);
     door.taken = taken;
     door.failed = !good;
+    shared.counts.taken = shared.counts.taken.saturating_add(u64::from(taken));
     // The gate may open before the round ends, and then the connection has to be looked at again.
-    door.held = carrier.holds_back(table.octets_held(slot), round.now);
+    door.held = shared
+        .carrier
+        .holds_back(table.octets_held(slot), round.now);
 }
 
 /// One write of a connection, and what is left to do on it.

@@ -11,15 +11,15 @@ pub(crate) const FRESH: u64 = 1_000;
 /// that it knows, how many messages wait for it and how many were dropped, and for how many seconds
 /// nothing was heard of it.
 fn peer_line(alloc: Global, line: &Line, now: u64) -> Result<String, AllocError> {
-    let node = line.node;
-    let state = if line.is_known() { "reached" } else { "lost" };
-    let (prefix, waiting, dropped) = (line.prefix, line.waiting(), line.dropped);
-    if line.heard == 0 {
+    let (node, contact) = (line.node, line.contact());
+    let state = if contact.is_known { "reached" } else { "lost" };
+    let (prefix, waiting, dropped) = (contact.prefix, line.waiting(), line.dropped);
+    if contact.heard == 0 {
         return Ok(format!(in alloc;
             "peer {node} {state} prefix {prefix} waiting {waiting} dropped {dropped} heard never\n"
         )?);
     }
-    let silent = now.saturating_sub(line.heard) / 1_000;
+    let silent = now.saturating_sub(contact.heard) / 1_000;
     Ok(format!(in alloc;
         "peer {node} {state} prefix {prefix} waiting {waiting} dropped {dropped} heard {silent}\n"
     )?)

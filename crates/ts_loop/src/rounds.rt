@@ -4,7 +4,7 @@
 ghost use Rattle.ts_links.specs.Calls.{HasReached, IsQuiet};
 
 use crate::pumping::{PumpEnd, Round, begin, end};
-use crate::watch::Watch;
+use crate::shared::Shared;
 use crate::web::{WEB, Web};
 use mio::{Events, Token};
 use std::rt::Clock;
@@ -81,10 +81,10 @@ fn settle(
         }
         return false;
     }
-    let why = if pumped == PumpEnd::Ended {
-        Why::Ended
-    } else {
-        Why::Failed
+    let why = match place {
+        _ if pumped == PumpEnd::Ended => Why::Ended,
+        Some(door) => door.failure(),
+        None => Why::Failed,
     };
     close_slot(table, place, slot, why, counts);
     false
@@ -95,12 +95,10 @@ fn begin_slot<S: Service, R: Clock>(
     round: &Round<'_, R>,
     table: &mut Connections,
     service: &mut S,
-    carrier: &mut Carrier,
+    shared: &mut Shared,
     place: &mut Option<Door>,
     slot: usize,
     buffer: &mut [u8; PIECE],
-    counts: &mut Counts,
-    watch: &mut Watch,
 )
     requires { S.is_ready service.old }
     ensures reached { HasReached S.turn S.keeps service.old table.old service.new table.new }
@@ -109,11 +107,9 @@ fn begin_slot<S: Service, R: Clock>(
     let Some(door) = place else {
         return;
     };
-    if !door.hot {
-        return;
+    if door.hot {
+        begin(round, table, service, shared, door, slot, buffer);
     }
-    begin(round, table, service, carrier, door, slot, buffer, watch);
-    counts.taken = counts.taken.saturating_add(u64::from(door.taken));
 }
 
 /// A round of all doors that are to be looked at begins, from the one on that is behind the slot
@@ -122,24 +118,20 @@ pub(crate) fn begin_all<S: Service, R: Clock>(
     round: &Round<'_, R>,
     table: &mut Connections,
     service: &mut S,
-    carrier: &mut Carrier,
+    shared: &mut Shared,
     doors: &mut [Option<Door>],
     buffer: &mut [u8; PIECE],
-    counts: &mut Counts,
-    watch: &mut Watch,
 )
     requires { S.is_ready service.old }
     ensures reached { HasReached S.turn S.keeps service.old table.old service.new table.new }
     ensures ready { S.is_ready service.new }
 {
     let slots = doors.len();
-    let first = carrier.next_slot();
+    let first = shared.carrier.next_slot();
     for step in 0..slots {
         let slot = first.wrapping_add(step) % slots;
         let place = &mut doors[slot];
-        begin_slot(
-            round, table, service, carrier, place, slot, buffer, counts, watch,
-        );
+        begin_slot(round, table, service, shared, place, slot, buffer);
     }
 }
 
@@ -198,33 +190,31 @@ fn is_over(place: &Option<Door>, deadlines: &Deadlines, now: u64) -> bool {
 /// Closes the connection of a slot if its time is over. A request that has to wait is not late.
 fn sweep_slot(
     table: &mut Connections,
-    carrier: &Carrier,
+    shared: &mut Shared,
     place: &mut Option<Door>,
     slot: usize,
     deadlines: &Deadlines,
     now: u64,
-    counts: &mut Counts,
 )
     ensures { IsQuiet table.old table.new }
 {
     let is_late = table.is_late(slot, deadlines, now)
-        && !carrier.holds_back(table.octets_held(slot), now);
+        && !shared.carrier.holds_back(table.octets_held(slot), now);
     if !is_late && !is_over(place, deadlines, now) {
         return;
     }
-    close_slot(table, place, slot, Why::Late, counts);
+    close_slot(table, place, slot, Why::Late, &mut shared.counts);
 }
 
 /// Closes the connections whose time is over, if a tenth of a second has gone since that was done.
 /// When it was done last.
 pub(crate) fn sweep(
     table: &mut Connections,
-    carrier: &Carrier,
+    shared: &mut Shared,
     doors: &mut [Option<Door>],
     deadlines: &Deadlines,
     swept: u64,
     now: u64,
-    counts: &mut Counts,
 ) -> u64
     ensures { IsQuiet table.old table.new }
 {
@@ -232,15 +222,7 @@ pub(crate) fn sweep(
         return swept;
     }
     for slot in 0..doors.len() {
-        sweep_slot(
-            table,
-            carrier,
-            &mut doors[slot],
-            slot,
-            deadlines,
-            now,
-            counts,
-        );
+        sweep_slot(table, shared, &mut doors[slot], slot, deadlines, now);
     }
     now
 }

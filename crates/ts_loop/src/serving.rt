@@ -14,6 +14,7 @@ use crate::listening::{ListenFault, add_places, listener_at};
 use crate::pumping::Round;
 use crate::reporting::{FRESH, report_of};
 use crate::rounds::{LISTENER, begin_all, end_all, mark, sweep};
+use crate::shared::Shared;
 use crate::showing::{ShownMetrics, show_all};
 use crate::watch::Watch;
 use crate::web::Web;
@@ -48,11 +49,9 @@ struct Edge {
     events: Events,
     listener: TcpListener,
     doors: Vec<Option<Door>>,
-    carrier: Carrier,
+    shared: Shared,
     web: Option<Web>,
     accepts: Accepts,
-    counts: Counts,
-    watch: Watch,
     start: Instant,
     swept: u64,
     /// When the service was last told how it does.
@@ -156,11 +155,13 @@ impl Edge {
             events,
             listener,
             doors: Vec::new(alloc),
-            carrier: Carrier::new(alloc, own, group.carries, group.tells, seed),
+            shared: Shared {
+                carrier: Carrier::new(alloc, own, group.carries, group.tells, seed),
+                counts: Counts::new(),
+                watch: Watch::new(),
+            },
             web: None,
             accepts: Accepts::AtEvent,
-            counts: Counts::new(),
-            watch: Watch::new(),
             start,
             swept: 0,
             noted: None,
@@ -178,7 +179,7 @@ impl Edge {
         access: &Access<'_>,
     ) -> Result<(), LoopFault> {
         add_places(&mut self.doors, slots)?;
-        add_peers(rt, &mut self.carrier, own, &group.peers)?;
+        add_peers(rt, &mut self.shared.carrier, own, &group.peers)?;
         self.web = web_of(rt, self.alloc, self.poll.registry(), slots, access)?;
         Ok(())
     }
@@ -218,18 +219,16 @@ impl Edge {
         let wait = if self.goes_on() {
             0
         } else {
-            self.carrier.patience(begun, ROUND)
+            self.shared.carrier.patience(begun, ROUND)
         };
         let longest = Some(Duration::from_millis(wait));
         if self.poll.poll(&mut self.events, longest).is_err() {
             return Err(LoopFault::Poll);
         }
         let now = self.now(rt)?;
-        let doors = &mut self.doors;
-        Ok((
-            mark(doors, &mut self.carrier, &mut self.web, &self.events),
-            now,
-        ))
+        let carrier = &mut self.shared.carrier;
+        let accepts = mark(&mut self.doors, carrier, &mut self.web, &self.events);
+        Ok((accepts, now))
     }
 
     /// Accepts connections, if it is time.
@@ -258,7 +257,7 @@ impl Edge {
             &self.listener,
             &entry,
             now,
-            &mut self.counts,
+            &mut self.shared.counts,
         );
     }
 
@@ -275,10 +274,11 @@ impl Edge {
         }
         if web.is_stale(now) {
             let shown = ShownMetrics {
-                frames: &self.counts,
+                version: access.version,
+                frames: &self.shared.counts,
                 http: web.counts,
-                carrier: &self.carrier,
-                watch: &self.watch,
+                carrier: &self.shared.carrier,
+                watch: &self.shared.watch,
                 meter: access.meter,
             };
             let _shown = show_all(rt, self.alloc, &mut web.board, &shown);
@@ -302,10 +302,11 @@ impl Edge {
             None => "",
         };
         let shown = ShownMetrics {
-            frames: &self.counts,
+            version: access.version,
+            frames: &self.shared.counts,
             http,
-            carrier: &self.carrier,
-            watch: &self.watch,
+            carrier: &self.shared.carrier,
+            watch: &self.shared.watch,
             meter: access.meter,
         };
         if let Ok(text) = report_of(self.alloc, about, &shown, now) {
@@ -316,93 +317,68 @@ impl Edge {
     /// The requests of HTTP are taken.
     fn take_web<S: Service, R: Files + Clock>(
         &mut self,
-        rt: &R,
+        round: &Round<'_, R>,
         table: &mut Connections,
         service: &mut S,
         access: &Access<'_>,
         buffer: &mut [u8; PIECE],
-        now: u64,
     )
         requires { S.is_ready service.old }
         ensures reached { HasReached S.turn S.keeps service.old table.old service.new table.new }
         ensures ready { S.is_ready service.new }
     {
-        self.show(rt, access, now);
+        self.show(round.rt, access, round.now);
         let Some(web) = &mut self.web else {
             return;
         };
-        let round = Round {
-            rt,
-            keys: access.keys(),
-            now,
-        };
         let registry = self.poll.registry();
-        let (carrier, watch) = (&mut self.carrier, &mut self.watch);
-        web.begin(&round, registry, table, service, carrier, watch, buffer);
+        web.begin(round, registry, table, service, &mut self.shared, buffer);
     }
 
     /// All that is there is taken: the requests on all connections, what the node sends itself, and
     /// the requests of HTTP. What is answered waits.
     fn take<S: Service, R: Files + Clock>(
         &mut self,
-        rt: &R,
+        round: &Round<'_, R>,
         table: &mut Connections,
         service: &mut S,
         access: &Access<'_>,
         buffer: &mut [u8; PIECE],
-        now: u64,
     )
         requires { S.is_ready service.old }
         ensures reached { HasReached S.turn S.keeps service.old table.old service.new table.new }
         ensures ready { S.is_ready service.new }
     {
-        let round = Round {
-            rt,
-            keys: access.keys(),
-            now,
-        };
-        begin_all(
-            &round,
-            table,
-            service,
-            &mut self.carrier,
-            &mut self.doors,
-            buffer,
-            &mut self.counts,
-            &mut self.watch,
-        );
-        self.carrier.carry(table, service, self.counts.taken, now);
-        self.take_web(rt, table, service, access, buffer, now);
+        let (shared, doors) = (&mut self.shared, &mut self.doors);
+        begin_all(round, table, service, shared, doors, buffer);
+        let taken = shared.counts.taken;
+        shared.carrier.carry(table, service, taken, round.now);
+        self.take_web(round, table, service, access, buffer);
     }
 
     /// All that waits is written, since what followed from it is kept: on the connections, on the
     /// lines to the peers, and on the connections of HTTP.
     fn write<S: Service, R: Net + Eprint + RandomSource>(
         &mut self,
-        rt: &R,
+        round: &Round<'_, R>,
         table: &mut Connections,
         service: &S,
         limits: &Limits,
-        access: &Access<'_>,
+        own: &Option<Key>,
         buffer: &mut [u8; PIECE],
-        now: u64,
     )
         requires { S.is_kept service.now }
         ensures { IsQuiet table.old table.new }
     {
-        let round = Round {
-            rt,
-            keys: access.keys(),
-            now,
-        };
-        let (doors, counts) = (&mut self.doors, &mut self.counts);
-        self.more = end_all(&round, table, service, doors, counts);
+        let (doors, counts) = (&mut self.doors, &mut self.shared.counts);
+        self.more = end_all(round, table, service, doors, counts);
         if let Some(web) = &mut self.web {
-            web.end(service, limits, now);
+            web.end(service, limits, round.now);
         }
         let registry = self.poll.registry();
-        self.carrier
-            .tend(rt, service, registry, &access.own, buffer, now);
+        self.shared
+            .carrier
+            .tend(round.rt, service, registry, own, buffer, round.now);
     }
 
     /// Whether something is to be done at once.
@@ -411,7 +387,7 @@ impl Edge {
             Some(web) => web.goes_on(),
             None => false,
         };
-        web || self.more || self.carrier.has_more() || self.accepts == Accepts::Now
+        web || self.more || self.shared.carrier.has_more() || self.accepts == Accepts::Now
     }
 
     /// How many connections are over.
@@ -420,7 +396,7 @@ impl Edge {
             Some(web) => web.counts.over(),
             None => 0,
         };
-        self.counts.over().saturating_add(web)
+        self.shared.counts.over().saturating_add(web)
     }
 
     /// One round: what is there is taken, what followed from it is kept, by one append, and then
@@ -446,12 +422,18 @@ impl Edge {
         access.refresh(rt, self.alloc, now);
         self.accept(rt, table, access, event, now);
         self.note(service, access, now);
-        self.take(rt, table, service, access, buffer, now);
+        let round = Round {
+            rt,
+            alloc: self.alloc,
+            keys: access.keys(),
+            now,
+        };
+        self.take(&round, table, service, access, buffer);
         if !service.keep() {
             return Err(LoopFault::NodeFailed);
         }
-        self.write(rt, table, service, limits, access, buffer, now);
-        self.carrier.tell(rt, table, service, now);
+        self.write(&round, table, service, limits, &access.own, buffer);
+        self.shared.carrier.tell(rt, table, service, now);
         self.sweep(table, limits, now);
         Ok(())
     }
@@ -460,15 +442,8 @@ impl Edge {
     fn sweep(&mut self, table: &mut Connections, limits: &Limits, now: u64)
         ensures { IsQuiet table.old table.new }
     {
-        self.swept = sweep(
-            table,
-            &self.carrier,
-            &mut self.doors,
-            &limits.deadlines(),
-            self.swept,
-            now,
-            &mut self.counts,
-        );
+        let (shared, doors) = (&mut self.shared, &mut self.doors);
+        self.swept = sweep(table, shared, doors, &limits.deadlines(), self.swept, now);
     }
 
     /// Rounds, until so many connections are over, or one fails.
@@ -492,6 +467,14 @@ impl Edge {
             }
         }
         Ok(())
+    }
+}
+
+/// Tells standard error that the node listens, if that is wanted.
+fn greet(rt: &impl Eprint, access: &Access<'_>) {
+    if let Some(greeting) = &access.greeting {
+        let greeting = greeting.as_str();
+        let _ = eprint!(rt; "{greeting}");
     }
 }
 
@@ -536,8 +519,9 @@ where
     let mut table = Connections::new(alloc, slots.saturating_add(1))?;
     let own = server.identity();
     let mut edge = Edge::new(rt, alloc, address, slots, own, group, access)?;
+    greet(rt, access);
     let served = edge.serve(rt, &mut table, server, limits, access);
-    let counts = edge.counts;
+    let counts = edge.shared.counts;
     drop(edge);
     drop(table);
     match served {

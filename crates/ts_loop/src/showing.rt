@@ -13,6 +13,7 @@ use ts_sockets::Counts;
 /// What is shown.
 #[derive(Clone, Copy)]
 pub(crate) struct ShownMetrics<'a> {
+    pub version: Option<&'static str>,
     pub frames: &'a Counts,
     pub http: Counts,
     pub carrier: &'a Carrier,
@@ -65,6 +66,7 @@ fn show_counts(
         ("failed_accept", counts.failed_accepts),
         ("ended", counts.ended),
         ("late", counts.late),
+        ("denied", counts.denied),
         ("failed", counts.failed),
     ];
     for (kind, value) in rows {
@@ -82,6 +84,17 @@ fn plain(name: &'static str, help: &'static str, grows: bool, value: u64) -> Met
         label: Label::None,
         value,
     }
+}
+
+/// Shows the version of the program.
+fn show_version(board: &mut Board, version: &'static str) -> Result<(), AllocError> {
+    board.show(Metric {
+        name: "build_info",
+        help: "The version of the program that serves the node",
+        grows: false,
+        label: Label::Version(version),
+        value: 1,
+    })
 }
 
 /// Shows how often the node's disks were written and synced.
@@ -119,8 +132,8 @@ fn show_lines(alloc: Global, board: &mut Board, carrier: &Carrier) -> Result<(),
     for line in carrier.lines() {
         peers.push(PeerLine {
             node: line.node,
-            prefix: u64::from(line.prefix),
-            reached: line.is_known(),
+            prefix: u64::from(line.contact().prefix),
+            reached: line.contact().is_known,
         })?;
     }
     board.peers = peers;
@@ -143,18 +156,13 @@ fn show_peers(board: &mut Board, carrier: &Carrier) -> Result<(), AllocError> {
     let lines = carrier.lines();
     let help = "Whether a peer has answered on the connection that is there";
     for line in lines {
-        let value = u64::from(line.is_known());
+        let value = u64::from(line.contact().is_known);
         board.show(of_peer("peer_reached", help, false, line.node, value))?;
     }
     let help = "Commands that a peer has said that it knows";
     for line in lines {
-        board.show(of_peer(
-            "peer_prefix",
-            help,
-            false,
-            line.node,
-            u64::from(line.prefix),
-        ))?;
+        let value = u64::from(line.contact().prefix);
+        board.show(of_peer("peer_prefix", help, false, line.node, value))?;
     }
     let help = "Messages that wait for a peer";
     for line in lines {
@@ -176,6 +184,9 @@ pub(crate) fn show_all<R: Files>(
     shown: &ShownMetrics<'_>,
 ) -> Result<(), AllocError> {
     board.metrics = Vec::new(alloc);
+    if let Some(version) = shown.version {
+        show_version(board, version)?;
+    }
     show_open(board, shown.frames, &shown.http)?;
     let help = "Connections of frames, by what became of them";
     show_counts(board, "connections_total", help, shown.frames)?;

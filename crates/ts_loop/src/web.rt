@@ -6,7 +6,7 @@ ghost use Rattle.ts_links.specs.Calls.{HasReached};
 use crate::fault::LoopFault;
 use crate::listening::{ListenFault, add_places, listener_at};
 use crate::pumping::Round;
-use crate::watch::Watch;
+use crate::shared::Shared;
 use crate::web_door::{RoundEnd, WebDoor, begin_web, end_web};
 use mio::event::Event;
 use mio::net::{TcpListener, TcpStream};
@@ -15,7 +15,6 @@ use std::alloc::Global;
 use std::net::Net;
 use std::rt::Clock;
 use ts_links::{Connections, Service};
-use ts_peers::Carrier;
 use ts_site::{Board, Face, Scene};
 use ts_sockets::{ACCEPTS, Accepts, Access, Counts, Limits, PIECE, Socket, Why};
 
@@ -239,8 +238,7 @@ impl Web {
         round: &Round<'_, R>,
         table: &mut Connections,
         service: &mut S,
-        carrier: &mut Carrier,
-        watch: &mut Watch,
+        shared: &mut Shared,
         slot: usize,
         buffer: &mut [u8; PIECE],
     )
@@ -251,7 +249,7 @@ impl Web {
         let Some(Some(door)) = self.doors.get_mut(slot) else {
             return;
         };
-        if !door.hot {
+        if !door.hot || !door.begin(buffer, round.now) {
             return;
         }
         let scene = Scene {
@@ -261,9 +259,7 @@ impl Web {
             keys: round.keys,
         };
         let board = &mut self.board;
-        begin_web(
-            round, &scene, table, service, carrier, watch, self.alloc, door, board, buffer,
-        );
+        begin_web(round, &scene, table, service, shared, door, board);
     }
 
     /// A round begins: connections are accepted, read, and their requests are taken.
@@ -273,8 +269,7 @@ impl Web {
         registry: &Registry,
         table: &mut Connections,
         service: &mut S,
-        carrier: &mut Carrier,
-        watch: &mut Watch,
+        shared: &mut Shared,
         buffer: &mut [u8; PIECE],
     )
         requires { S.is_ready service.old }
@@ -283,7 +278,7 @@ impl Web {
     {
         self.accept(registry, round.now);
         for slot in 0..self.doors.len() {
-            self.begin_slot(round, table, service, carrier, watch, slot, buffer);
+            self.begin_slot(round, table, service, shared, slot, buffer);
         }
     }
 

@@ -3,12 +3,12 @@
 ghost use Rattle.ts_links.specs.Calls.{HasReached};
 
 use crate::pumping::Round;
+use crate::shared::Shared;
 use crate::watch::{Watch, moment};
 use mio::event::Event;
-use std::alloc::Global;
 use std::rt::Clock;
 use ts_links::{Connections, Service};
-use ts_peers::{Carrier, ask, first_of};
+use ts_peers::{ask, first_of};
 use ts_site::{Board, Face, Scene};
 use ts_sockets::{PIECE, Socket};
 use ts_wire::Frame;
@@ -60,6 +60,13 @@ impl WebDoor {
     pub fn mark(&mut self, event: &Event) {
         self.hot = true;
         self.socket.mark(event);
+    }
+
+    /// A round begins: reads once, if there is room. `false` where the connection failed.
+    pub fn begin(&mut self, buffer: &mut [u8; PIECE], now: u64) -> bool {
+        self.turns = 0;
+        self.failed = !self.read(buffer, now);
+        !self.failed
     }
 
     /// Reads once, if there is room. `false` where the connection failed.
@@ -131,7 +138,6 @@ fn ask_node<S: Service, R: Clock>(
     table: &mut Connections,
     service: &mut S,
     watch: &mut Watch,
-    alloc: Global,
     request: &[u8],
 ) -> Option<Frame>
     requires { S.is_ready service.old }
@@ -139,9 +145,9 @@ fn ask_node<S: Service, R: Clock>(
     ensures ready { S.is_ready service.new }
 {
     let begun = moment(round.rt);
-    let answer = ask(table, service, alloc, request, round.now)?;
+    let answer = ask(table, service, round.alloc, request, round.now)?;
     watch.took(round.rt, begun);
-    first_of(alloc, &answer)
+    first_of(round.alloc, &answer)
 }
 
 /// Asks the node what the next request of a connection asks of it.
@@ -149,9 +155,7 @@ fn turn<S: Service, R: Clock>(
     round: &Round<'_, R>,
     table: &mut Connections,
     service: &mut S,
-    carrier: &mut Carrier,
-    watch: &mut Watch,
-    alloc: Global,
+    shared: &mut Shared,
     face: &mut Face,
     board: &mut Board,
 ) -> TurnEnd
@@ -162,11 +166,12 @@ fn turn<S: Service, R: Clock>(
     let Some(request) = face.asks() else {
         return TurnEnd::Nothing;
     };
-    if carrier.holds_back(request, round.now) {
+    if shared.carrier.holds_back(request, round.now) {
         return TurnEnd::Nothing;
     }
-    carrier.see_http(request, round.now);
-    let Some(frame) = ask_node(round, table, service, watch, alloc, request) else {
+    shared.carrier.see_http(request, round.now);
+    let watch = &mut shared.watch;
+    let Some(frame) = ask_node(round, table, service, watch, request) else {
         return TurnEnd::Failed;
     };
     let given = face.give(&frame, board, round.now);
@@ -184,9 +189,7 @@ fn take_turns<S: Service, R: Clock>(
     scene: &Scene<'_>,
     table: &mut Connections,
     service: &mut S,
-    carrier: &mut Carrier,
-    watch: &mut Watch,
-    alloc: Global,
+    shared: &mut Shared,
     face: &mut Face,
     board: &mut Board,
 ) -> Option<u32>
@@ -198,7 +201,7 @@ fn take_turns<S: Service, R: Clock>(
         if face.take(scene, board, round.now).is_err() {
             return None;
         }
-        match turn(round, table, service, carrier, watch, alloc, face, board) {
+        match turn(round, table, service, shared, face, board) {
             TurnEnd::Asked => {}
             TurnEnd::Nothing => return Some(turns),
             TurnEnd::Failed => return None,
@@ -207,33 +210,22 @@ fn take_turns<S: Service, R: Clock>(
     Some(TURNS)
 }
 
-/// One read and some turns of a connection. What it is answered waits.
+/// Some turns of a connection that was read. What it is answered waits.
 pub(crate) fn begin_web<S: Service, R: Clock>(
     round: &Round<'_, R>,
     scene: &Scene<'_>,
     table: &mut Connections,
     service: &mut S,
-    carrier: &mut Carrier,
-    watch: &mut Watch,
-    alloc: Global,
+    shared: &mut Shared,
     door: &mut WebDoor,
     board: &mut Board,
-    buffer: &mut [u8; PIECE],
 )
     requires { S.is_ready service.old }
     ensures reached { HasReached S.turn S.keeps service.old table.old service.new table.new }
     ensures ready { S.is_ready service.new }
 {
-    door.turns = 0;
-    door.failed = !door.read(buffer, round.now);
-    if door.failed {
-        return;
-    }
     let face = &mut door.face;
-    let turns = take_turns(
-        round, scene, table, service, carrier, watch, alloc, face, board,
-    );
-    match turns {
+    match take_turns(round, scene, table, service, shared, face, board) {
         Some(turns) => door.turns = turns,
         None => door.failed = true,
     }

@@ -15,6 +15,8 @@ pub enum Label {
     None,
     /// A peer, by its number.
     Peer(u8),
+    /// The version of the program.
+    Version(&'static str),
     /// How a connection ended, or the like.
     Kind(&'static str),
     /// What was asked, and what it was answered.

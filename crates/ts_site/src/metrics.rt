@@ -25,6 +25,9 @@ fn push_metric(alloc: Global, text: &mut String, metric: &Metric) -> Result<(), 
     let line = match metric.label {
         Label::None => format!(in alloc; "lehoratu_{name} {value}\n")?,
         Label::Peer(node) => format!(in alloc; "lehoratu_{name}{{peer=\"{node}\"}} {value}\n")?,
+        Label::Version(version) => {
+            format!(in alloc; "lehoratu_{name}{{version=\"{version}\"}} {value}\n")?
+        }
         Label::Kind(kind) => format!(in alloc; "lehoratu_{name}{{kind=\"{kind}\"}} {value}\n")?,
         Label::Answered(kind, answer) => format!(in alloc;
             "lehoratu_{name}{{kind=\"{kind}\",answer=\"{answer}\"}} {value}\n"

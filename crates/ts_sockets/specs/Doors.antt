@@ -3,10 +3,14 @@
 use Rattle.std.specs.Prelude.{◌-◌, ◌/◌, ℕ, Bool, true, false, Option, Some, None, nat_le, nat_lt}
 use Rattle.std.specs.Prelude.{if◌then◌else◌}
 use Rattle.ts_access.specs.Entering.{has_begun, role_in}
+use Rattle.ts_access.specs.declared.fault.EntranceFault.{EntranceFault}
+use Rattle.ts_access.specs.declared.fault.EntranceFault.TheVariants.{Memory}
 use Rattle.ts_access.specs.declared.key.Role.{Role}
 use Rattle.ts_access.specs.declared.key.Role.TheVariants.{Reader}
 use Rattle.ts_sockets.specs.declared.accepting.Accepts.{Accepts}
 use Rattle.ts_sockets.specs.declared.accepting.Accepts.TheVariants.{AtEvent, Now, At}
+use Rattle.ts_sockets.specs.declared.counts.Why.{Why}
+use Rattle.ts_sockets.specs.declared.counts.Why.TheVariants.{Denied, Failed}
 use Rattle.ts_sockets.specs.declared.lock.Lock.{Lock}
 
 -- it is time to accept, where the listener has an event or not
@@ -36,6 +40,16 @@ moment_of_reader other since = None
 
 abbrev pub reader_since : Lock → Option ℕ
 reader_since lock = moment_of_reader (role_in lock.entrance.stage) lock.since
+
+-- what came is not let through, whatever memory there is
+abbrev pub is_denial : EntranceFault → Bool
+is_denial Memory = false
+is_denial other = true
+
+-- why a connection failed: its lock did not let through what came, or another reason
+abbrev pub failure_of : Option Lock → Why
+failure_of (Some lock) = if lock.is_denied then Denied else Failed
+failure_of None = Failed
 
 -- so many readers leave less than an eighth of the places to others
 abbrev pub are_too_many : ℕ → ℕ → Bool

@@ -1,2 +1,5 @@
 pub mod Counts
 pub mod Doors
+pub mod Rooms
+pub mod Sockets
+pub mod inside

@@ -1,8 +1,11 @@
 //! Connections are accepted.
 
-ghost use Rattle.std.specs.Prelude.{◌≡◌};
+ghost use Rattle.std.specs.Prelude.{◌≡◌, filter, length, map};
 ghost use Rattle.ts_links.specs.Calls.{IsQuiet};
 ghost use Rattle.ts_sockets.specs.Doors.{are_too_many, is_due};
+ghost use Rattle.ts_sockets.specs.Rooms.{IsDispensable, IsEarliest, IsLatest, is_reader};
+ghost use Rattle.ts_sockets.specs.Rooms.{reader_at, unknown_at};
+ghost use Rattle.ts_sockets.specs.inside.Found.{earlier, later};
 
 use crate::access::Access;
 use crate::counts::{Counts, Why};
@@ -97,7 +100,9 @@ fn put_door<R: RandomSource>(
 }
 
 /// When the connection of a door was accepted, if it has shown no key.
-fn unknown_since(place: &Option<Door>) -> Option<u64> {
+fn unknown_since(place: &Option<Door>) -> Option<u64>
+    ensures { result ≡ unknown_at place.now }
+{
     match place {
         Some(
             Door {
@@ -110,22 +115,35 @@ fn unknown_since(place: &Option<Door>) -> Option<u64> {
 }
 
 /// The slot of the connection that has shown no key for the longest time.
-fn longest_unknown(doors: &[Option<Door>]) -> Option<usize> {
-    let mut found = None;
-    let mut earliest = u64::MAX;
-    for (slot, place) in doors.iter().enumerate() {
-        if let Some(since) = unknown_since(place) {
-            if since < earliest {
-                earliest = since;
-                found = Some(slot);
-            }
+fn longest_unknown(doors: &[Option<Door>]) -> Option<usize>
+    ensures { IsEarliest (map unknown_at doors.now) result }
+{
+    let mut found: Option<(usize, u64)> = None;
+    for slot in 0..doors.len() {
+        if let Some(since) = unknown_since(&doors[slot]) {
+            found = earlier(found, slot, since);
         }
     }
-    found
+    match found {
+        Some((slot, _)) => Some(slot),
+        None => None,
+    }
+}
+
+/// The one that is found, or this one where it is earlier.
+fn earlier(found: Option<(usize, u64)>, slot: usize, since: u64) -> Option<(usize, u64)>
+    ensures { result ≡ earlier found slot since }
+{
+    match found {
+        Some((_, earliest)) if earliest <= since => found,
+        _ => Some((slot, since)),
+    }
 }
 
 /// When the connection of a door was accepted, if it has shown the key of a reader.
-fn reader_since(place: &Option<Door>) -> Option<u64> {
+fn reader_since(place: &Option<Door>) -> Option<u64>
+    ensures { result ≡ reader_at place.now }
+{
     match place {
         Some(
             Door {
@@ -144,23 +162,63 @@ fn are_too_many(readers: usize, places: usize) -> bool
     readers > places - places / 8
 }
 
-/// The slot of the reader that came last, where readers leave less than an eighth of the places to
-/// peers, to admins and to those that have yet to show a key.
-fn latest_reader(doors: &[Option<Door>]) -> Option<usize> {
-    let mut readers = 0usize;
-    let mut found = None;
-    let mut latest = 0;
-    for (slot, place) in doors.iter().enumerate() {
-        if let Some(since) = reader_since(place) {
-            readers = readers.saturating_add(1);
-            if since >= latest {
-                latest = since;
-                found = Some(slot);
-            }
+/// Whether the connection of a door has shown the key of a reader.
+fn is_reader(place: &Option<Door>) -> bool
+    ensures { result ≡ is_reader place.now }
+{
+    reader_since(place).is_some()
+}
+
+/// How many connections have shown the key of a reader.
+fn count_readers(doors: &[Option<Door>]) -> usize
+    ensures { result ≡ length (filter is_reader doors.now) }
+{
+    let mut count = 0;
+    for place in doors.iter() {
+        if is_reader(place) {
+            count += 1;
         }
     }
-    if are_too_many(readers, doors.len()) {
-        found
+    count
+}
+
+/// The slot of the reader that came last.
+fn latest_reader(doors: &[Option<Door>]) -> Option<usize>
+    ensures { IsLatest (map reader_at doors.now) result }
+{
+    let mut found: Option<(usize, u64)> = None;
+    for slot in 0..doors.len() {
+        if let Some(since) = reader_since(&doors[slot]) {
+            found = later(found, slot, since);
+        }
+    }
+    match found {
+        Some((slot, _)) => Some(slot),
+        None => None,
+    }
+}
+
+/// The one that is found, or this one where it is not earlier.
+fn later(found: Option<(usize, u64)>, slot: usize, since: u64) -> Option<(usize, u64)>
+    ensures { result ≡ later found slot since }
+{
+    match found {
+        Some((_, latest)) if latest > since => found,
+        _ => Some((slot, since)),
+    }
+}
+
+/// The slot of the connection that makes room where keys are wanted: the one that has shown none
+/// for the longest time; else, where readers leave less than an eighth of the places to peers and
+/// admins, the reader that came last.
+fn dispensable(doors: &[Option<Door>]) -> Option<usize>
+    ensures { IsDispensable doors.now result }
+{
+    if let Some(slot) = longest_unknown(doors) {
+        return Some(slot);
+    }
+    if are_too_many(count_readers(doors), doors.len()) {
+        latest_reader(doors)
     } else {
         None
     }
@@ -179,7 +237,7 @@ fn make_room(
     ensures { IsQuiet table.old table.new }
 {
     let slot = if is_locked {
-        longest_unknown(doors).or_else(|| latest_reader(doors))?
+        dispensable(doors)?
     } else {
         table.idlest()?
     };

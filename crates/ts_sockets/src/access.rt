@@ -23,8 +23,12 @@ pub struct Access<'m> {
     pub http: Option<String>,
     /// What counts how often the node's disks are written and synced.
     pub meter: Option<&'m Meter>,
+    /// The version of the program that serves the node.
+    pub version: Option<&'static str>,
     /// Lines that begin each report: what serves the node, and by which check of signatures.
     pub about: Option<String>,
+    /// Lines that standard error is told once the node listens.
+    pub greeting: Option<String>,
 }
 
 impl<'m> Access<'m> {
@@ -37,7 +41,9 @@ impl<'m> Access<'m> {
             open: true,
             http: None,
             meter: None,
+            version: None,
             about: None,
+            greeting: None,
         }
     }
 

@@ -20,7 +20,10 @@ pub struct Counts {
     pub ended: u64,
     /// Connections whose time was over.
     pub late: u64,
-    /// Connections that failed.
+    /// Connections that showed no key that is known, where keys are wanted, or whose octets were
+    /// not sealed with it.
+    pub denied: u64,
+    /// Connections that failed otherwise.
     pub failed: u64,
     /// How many are open.
     pub open: u64,
@@ -41,6 +44,7 @@ impl Counts {
             taken: 0,
             ended: 0,
             late: 0,
+            denied: 0,
             failed: 0,
             open: 0,
             most: 0,
@@ -71,6 +75,7 @@ impl Counts {
         match why {
             Why::Ended => self.ended = self.ended.saturating_add(1),
             Why::Late => self.late = self.late.saturating_add(1),
+            Why::Denied => self.denied = self.denied.saturating_add(1),
             Why::Failed => self.failed = self.failed.saturating_add(1),
             Why::MadeRoom => self.made_room = self.made_room.saturating_add(1),
         }
@@ -81,8 +86,9 @@ impl Counts {
         ensures { result ≡ over self.now }
     {
         let closed = self.ended.saturating_add(self.late);
-        let others = self.failed.saturating_add(self.made_room);
-        closed.saturating_add(others).saturating_add(self.refused)
+        let failed = self.failed.saturating_add(self.denied);
+        let others = self.made_room.saturating_add(self.refused);
+        closed.saturating_add(failed).saturating_add(others)
     }
 }
 
@@ -91,6 +97,7 @@ impl Counts {
 pub enum Why {
     Ended,
     Late,
+    Denied,
     Failed,
     MadeRoom,
 }

@@ -2,8 +2,9 @@
 
 ghost use Rattle.std.specs.Prelude.{◌≡◌};
 ghost use Rattle.ts_links.specs.Calls.{IsQuiet};
-ghost use Rattle.ts_sockets.specs.Doors.{is_over_at};
+ghost use Rattle.ts_sockets.specs.Doors.{failure_of, is_over_at};
 
+use crate::counts::Why;
 use crate::lock::{HandOver, Lock};
 use crate::socket::{PIECE, Socket};
 use std::net::SocketAddr;
@@ -50,6 +51,16 @@ impl Door {
         match &self.lock {
             Some(lock) => lock.is_over(millis, now),
             None => false,
+        }
+    }
+
+    /// Why it failed, where it has: its lock may not have let it in.
+    pub fn failure(&self) -> Why
+        ensures { result ≡ failure_of self.now.lock }
+    {
+        match &self.lock {
+            Some(lock) if lock.is_denied() => Why::Denied,
+            _ => Why::Failed,
         }
     }
 

@@ -1,8 +1,8 @@
 //! The lock of a slot: what comes on its socket is opened, and what leaves is sealed.
 
-ghost use Rattle.std.specs.Prelude.{◌≡◌, ◌≤◌, drop, length, nat_lt};
+ghost use Rattle.std.specs.Prelude.{◌≡◌, ◌≤◌, ◌||◌, drop, length, nat_lt};
 ghost use Rattle.ts_links.specs.Calls.{IsQuiet};
-ghost use Rattle.ts_sockets.specs.Doors.{is_over, reader_since, unknown_since};
+ghost use Rattle.ts_sockets.specs.Doors.{is_denial, is_over, reader_since, unknown_since};
 
 use std::alloc::Global;
 use std::random::RandomSource;
@@ -27,6 +27,9 @@ pub(crate) struct Lock {
     out: Queue,
     /// When the connection was accepted.
     since: u64,
+    /// Whether what came was not let through: it shows no key that is known, or isn't sealed with
+    /// it.
+    is_denied: bool,
 }
 
 /// What became of the octets that a lock holds.
@@ -52,6 +55,7 @@ impl Lock {
             entrance,
             out,
             since: now,
+            is_denied: false,
         })
     }
 
@@ -115,9 +119,21 @@ impl Lock {
         self.out.skip(count);
     }
 
-    /// Answers octets that are no greeting as servers without keys answer a frame of another
-    /// version, so that a client without a key learns why it is not served.
-    fn turn_away(&mut self, fault: EntranceFault) {
+    /// Whether what came was not let through.
+    pub fn is_denied(&self) -> bool
+        ensures { result ≡ self.now.is_denied }
+    {
+        self.is_denied
+    }
+
+    /// What came is not let through. Octets that are no greeting are answered as servers without
+    /// keys answer a frame of another version, so that a client without a key learns why it is not
+    /// served.
+    fn turn_away(&mut self, fault: EntranceFault)
+        ensures { self.new.is_denied
+            ≡ (self.old.is_denied || is_denial fault) }
+    {
+        self.is_denied = self.is_denied || !matches!(fault, EntranceFault::Memory);
         if !matches!(fault, EntranceFault::Hello(_)) {
             return;
         }

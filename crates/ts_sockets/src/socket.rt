@@ -1,6 +1,7 @@
 //! A socket whose calls don't wait, and what may be done on it.
 
-ghost use Rattle.std.specs.Prelude.{◌≤◌, IfSome, length};
+ghost use Rattle.std.specs.Prelude.{◌≡◌, ◌≤◌, ◌&&◌, IfSome, false, length, not, true};
+ghost use Rattle.ts_sockets.specs.Sockets.{AfterRead, AfterWrite};
 
 use mio::event::Event;
 use mio::net::TcpStream;
@@ -28,7 +29,15 @@ pub struct Socket {
 
 impl Socket {
     /// The socket of a connection that is there: its first read and write are worth while.
-    pub fn new(stream: TcpStream) -> Socket {
+    pub fn new(stream: TcpStream) -> Socket
+        ensures { result ≡ record {
+          stream = stream;
+          readable = true;
+          writable = true;
+          ended = false;
+          shut = false;
+        } }
+    {
         Socket {
             stream,
             readable: true,
@@ -39,7 +48,15 @@ impl Socket {
     }
 
     /// The socket of a connection that is being made: an event says when it may be written.
-    pub fn dialed(stream: TcpStream) -> Socket {
+    pub fn dialed(stream: TcpStream) -> Socket
+        ensures { result ≡ record {
+          stream = stream;
+          readable = false;
+          writable = false;
+          ended = false;
+          shut = false;
+        } }
+    {
         Socket {
             stream,
             readable: false,
@@ -66,28 +83,37 @@ impl Socket {
     }
 
     /// Whether a read may give something.
-    pub fn is_readable(&self) -> bool {
+    pub fn is_readable(&self) -> bool
+        ensures { result ≡ (self.now.readable && not self.now.ended) }
+    {
         self.readable && !self.ended
     }
 
     /// Whether a write may take something.
-    pub fn is_writable(&self) -> bool {
+    pub fn is_writable(&self) -> bool
+        ensures { result ≡ self.now.writable }
+    {
         self.writable
     }
 
     /// Whether no more comes.
-    pub fn is_ended(&self) -> bool {
+    pub fn is_ended(&self) -> bool
+        ensures { result ≡ self.now.ended }
+    {
         self.ended
     }
 
     /// Whether nothing more is written.
-    pub fn is_shut(&self) -> bool {
+    pub fn is_shut(&self) -> bool
+        ensures { result ≡ self.now.shut }
+    {
         self.shut
     }
 
     /// Reads once. How many octets came, and `None` where the connection failed.
     pub fn read(&mut self, buffer: &mut [u8; PIECE]) -> Option<usize>
-        ensures { IfSome result (λ count. count ≤ 16384) }
+        ensures count { IfSome result (λ count. count ≤ 16384) }
+        ensures after { IfSome result (AfterRead self.old self.new) }
     {
         match self.stream.read(buffer) {
             Ok(0) => {
@@ -109,7 +135,8 @@ impl Socket {
     /// disk what followed from all requests that it answered.
     pub fn write<S: Service>(&mut self, _kept: &S, octets: &[u8]) -> Option<usize>
         requires { S.is_kept _kept.now }
-        ensures { IfSome result (λ count. count ≤ length octets.now) }
+        ensures count { IfSome result (λ count. count ≤ length octets.now) }
+        ensures after { IfSome result (AfterWrite self.old self.new) }
     {
         match self.stream.write(octets) {
             Ok(count) => Some(count),
@@ -124,7 +151,9 @@ impl Socket {
 
     /// Ends what is written. The system would else take the last octets away where the peer has
     /// sent more.
-    pub fn shut(&mut self) {
+    pub fn shut(&mut self)
+        ensures { self.new ≡ record self.old { shut = true; stream = self.new.stream } }
+    {
         if !self.shut {
             self.shut = true;
             let _shut = self.stream.shutdown(Shutdown::Write);
