@@ -54,6 +54,14 @@ fn run_lab(rt: &(impl AllocGlobal + Input + Print)) -> u8
     lab(rt.alloc(), &mut rt.reader(), &mut io::writer(rt))
 }
 
+/// Prints the name of a fault on standard error, unless nobody reads standard output any more, as
+/// where `head` has what it wants.
+fn print_fault(rt: &impl Eprint, fault: TaskFault) {
+    if fault != TaskFault::Closed {
+        let _printed = eprintln!(rt; "fault: {fault}");
+    }
+}
+
 /// The status that a task ends with: 0; 1 where a command is refused or a chain is not valid; and 1
 /// for a fault, whose name is printed on standard error.
 fn status_of(rt: &impl Eprint, ended: Result<Ending, TaskFault>) -> u8
@@ -65,7 +73,7 @@ fn status_of(rt: &impl Eprint, ended: Result<Ending, TaskFault>) -> u8
         Ok(Ending::Well) => 0,
         Ok(Ending::Refused) => 1,
         Err(fault) => {
-            let _printed = eprintln!(rt; "fault: {fault}");
+            print_fault(rt, fault);
             1
         }
     }
@@ -82,7 +90,7 @@ fn status_of_verdict(rt: &impl Eprint, ended: Result<bool, TaskFault>) -> u8
         Ok(true) => 0,
         Ok(false) => 1,
         Err(fault) => {
-            let _printed = eprintln!(rt; "fault: {fault}");
+            print_fault(rt, fault);
             2
         }
     }

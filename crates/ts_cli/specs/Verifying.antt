@@ -1,5 +1,6 @@
 -- The chain that is judged, by the arguments of `trustd verify`.
-use Rattle.std.specs.Prelude.{◌≡◌, ◌≤◌, List, codes, length, map, string_bytes, option_map}
+use Rattle.std.specs.Prelude.{◌≡◌, ◌≤◌, List, [], codes, false, length, map, string_bytes}
+use Rattle.std.specs.Prelude.{option_map}
 use Rattle.clap.specs.Walk.{Row, first_of}
 use Rattle.ts_cli.specs.Values.{AsWritten, IsDotted, written}
 use Rattle.ts_cli.specs.Given.{IsMomentOrNow, all_at, is_set}
@@ -14,6 +15,8 @@ pub record IsVerify (rows : List Row) (words : VerifyWords) : Type 0 where
   pub host_is : first_of (codes "host") rows ≡ option_map string_bytes words.host
   pub soft_is : words.soft ≡ is_set (codes "soft") rows
   pub deltas_is : words.deltas ≡ is_set (codes "deltas") rows
+  -- without CRLs revocation is not checked, and neither can be asked
+  pub with_lists : words.crls.items ≡ [] → (words.soft ≡ false) × (words.deltas ≡ false)
   pub explicit_is : words.explicit ≡ is_set (codes "explicit") rows
   pub nomap_is : words.nomap ≡ is_set (codes "nomap") rows
   pub noany_is : words.noany ≡ is_set (codes "noany") rows

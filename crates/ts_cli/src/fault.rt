@@ -52,6 +52,8 @@ pub enum WrongValue {
     From,
     /// No two numbers of commands.
     Positions,
+    /// What a revocation check is asked, where no CRL is given.
+    Lists,
     /// Neither anchors nor CRLs.
     Material,
     /// No object identifier.
@@ -89,6 +91,7 @@ impl fmt::Display for WrongValue {
             WrongValue::Position => "--k is a number from 0 to 1000000",
             WrongValue::From => "--from is a number from 1 to 1000000",
             WrongValue::Positions => "K1 and K2 are numbers from 0 to 1000000",
+            WrongValue::Lists => "--soft and --deltas go with --crl",
             WrongValue::Material => "sync takes --anchors, --crls or both",
             WrongValue::Oid => "an object identifier is written as 2.5.29.32.0",
             WrongValue::Policies => "there are at most 32 policies",

@@ -36,7 +36,7 @@ pub(crate) fn role_at(matches: &ArgMatches<'_>) -> Result<Role, CommandFault>
 {
     let node = value_at(matches, "node");
     match value_at(matches, "role") {
-        Some(role) if role == "peer" => {
+        Some(role) if role == "peer" && node.is_some() => {
             let node = number_at(matches, "node", 1, 9, WrongValue::Role)?;
             Ok(Role::Peer(node as u8))
         }

@@ -17,7 +17,7 @@ fn with_material<'a>(alloc: Global, own: Making<Command<'a>>) -> Making<Command<
         → IfOk result (IsShape (shapes.with_material shape)) }
     ensures local { IfOk own.entry IsLocal → IfOk result IsLocal }
 {
-    let help = "Hold exactly the anchors of these files; leave the anchors if not given";
+    let help = "Hold exactly the anchors of these files and folders; leave them if not given";
     let all = with(own, options(alloc, "anchors", "FILE", help));
     let help = "Hold exactly the CRLs of these files and folders; leave the CRLs if not given";
     let all = with(all, options(alloc, "crls", "FILE", help));

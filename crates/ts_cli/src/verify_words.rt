@@ -71,14 +71,19 @@ pub(crate) fn verify_words(
 ) -> Result<VerifyWords, CommandFault>
     ensures { IfOk result (IsVerify (rows_of (found_of matches.now))) }
 {
+    let crls = strings_at(alloc, matches, "crl")?;
+    let (soft, deltas) = (is_set(matches, "soft"), is_set(matches, "deltas"));
+    if crls.is_empty() && (soft || deltas) {
+        return Err(CommandFault::Value(WrongValue::Lists));
+    }
     Ok(VerifyWords {
         anchors: strings_at(alloc, matches, "anchor")?,
-        crls: strings_at(alloc, matches, "crl")?,
+        crls,
         certificates: strings_at(alloc, matches, "certificates")?,
         moment: moment_or_now(matches)?,
         host: optional_string_at(alloc, matches, "host")?,
-        soft: is_set(matches, "soft"),
-        deltas: is_set(matches, "deltas"),
+        soft,
+        deltas,
         explicit: is_set(matches, "explicit"),
         nomap: is_set(matches, "nomap"),
         noany: is_set(matches, "noany"),

@@ -39,16 +39,36 @@ fn values_of<R: AllocGlobal + Files + Eprint + Clone + Drop>(
     Ok(values)
 }
 
+/// Which value of its file the next one is, behind these: from 1.
+fn place_behind(values: &[Value], file: &str) -> usize {
+    let before = values
+        .iter()
+        .filter(|value| value.file.as_str() == file)
+        .count();
+    before.saturating_add(1)
+}
+
+/// Whether each of these is a certificate by each rule; standard error says which one is none.
+fn are_certificates(rt: &impl Eprint, anchors: &[Value]) -> bool {
+    for (at, anchor) in anchors.iter().enumerate() {
+        let file = anchor.file.as_str();
+        if !is_certificate(rt, file, &anchor.octets) {
+            let place = place_behind(&anchors[..at], file);
+            let _ = eprintln!(rt; "trustd: {file}: of its certificates it is number {place}");
+            return false;
+        }
+    }
+    true
+}
+
 /// What the files hold that the words name. Each certificate is one by each rule.
 fn wanted_by<R: AllocGlobal + Files + Eprint + Clone + Drop>(
     rt: &R,
     words: &SyncWords,
 ) -> Result<WantedFiles, TaskFault> {
     let anchors = values_of(rt, &words.anchors, Kind::Certificate)?;
-    for anchor in &anchors {
-        if !is_certificate(rt, anchor.file.as_str(), &anchor.octets) {
-            return Err(TaskFault::Field);
-        }
+    if !are_certificates(rt, &anchors) {
+        return Err(TaskFault::Field);
     }
     let crls = values_of(rt, &words.crls, Kind::List)?;
     Ok(WantedFiles { anchors, crls })

@@ -95,7 +95,9 @@ fn access_of<'m, R: Files + Eprint>(
         open: words.open,
         http: copy_of(alloc, &words.http)?,
         meter: Some(meter),
+        version: Some(VERSION),
         about: Some(about_of(alloc, words)?),
+        greeting: None,
     })
 }
 
@@ -121,35 +123,45 @@ fn about_of(alloc: Global, words: &ServeWords) -> Result<String, AllocError> {
     Ok(about)
 }
 
-/// Says on standard error what is served, and what is not protected, unless that is not wanted.
-fn say_start(rt: &impl Eprint, words: &ServeWords, group: &Group, access: &Access<'_>) {
+/// What standard error is told once the node listens: what is served, and what is not protected.
+/// Nothing where that is not wanted.
+fn greeting_of(
+    alloc: Global,
+    words: &ServeWords,
+    group: &Group,
+    access: &Access<'_>,
+) -> Result<Option<String>, AllocError> {
     if words.quiet {
-        return;
+        return Ok(None);
     }
     let (file, listen) = (words.file.as_str(), words.listen.as_str());
     let peers = group.peers.len();
-    let _ = eprintln!(rt; "trustd: serves {file} at {listen}, {peers} peers");
+    let mut text = format!(in alloc; "trustd: serves {file} at {listen}, {peers} peers\n")?;
     if let Some(http) = &words.http {
         let http = http.as_str();
-        let _ = eprintln!(rt; "trustd: answers HTTP at {http}, to whoever reaches it");
+        let line = format!(in alloc; "trustd: answers HTTP at {http}, to whoever reaches it\n")?;
+        text.push_str(line.as_str())?;
     }
-    if access.keyring.is_none() {
-        let _ = eprintln!(rt; "trustd: no --keys: whoever reaches {listen} may change the store");
+    let (has_keys, has_key) = (access.keyring.is_some(), access.own.is_some());
+    if !has_keys {
+        let line = format!(in alloc;
+            "trustd: no --keys: whoever reaches {listen} may change the store\n"
+        )?;
+        text.push_str(line.as_str())?;
     }
     if !group.carries {
-        let _ = eprintln!(rt;
-            "trustd: no --peer: only `trustd carry` takes messages to the others"
-        );
+        text.push_str("trustd: no --peer: only `trustd carry` takes messages to the others\n")?;
     }
-    if access.keyring.is_none() && access.own.is_some() {
-        let _ = eprintln!(rt; "trustd: --key without --keys: others reach this node without one");
+    if !has_keys && has_key {
+        text.push_str("trustd: --key without --keys: others reach this node without one\n")?;
     }
-    if access.keyring.is_some() && access.own.is_none() && peers > 0 {
-        let _ = eprintln!(rt; "trustd: no --key: peers that want keys refuse this node");
+    if has_keys && !has_key && peers > 0 {
+        text.push_str("trustd: no --key: peers that want keys refuse this node\n")?;
     }
+    Ok(Some(text))
 }
 
-/// The group that the words name, of this node, and who may ask it. Standard error is told of them.
+/// The group that the words name, of this node, and who may ask it.
 ///
 /// # Errors
 ///
@@ -163,10 +175,16 @@ pub(crate) fn setting_of<'m, R: Files + Eprint>(
 ) -> Result<(Group, Access<'m>), TaskFault> {
     let group = group_of(rt, alloc, words, own)?;
     match access_of(rt, alloc, words, own.node, meter) {
-        Ok(access) => {
-            say_start(rt, words, &group, &access);
-            Ok((group, access))
-        }
+        Ok(mut access) => match greeting_of(alloc, words, &group, &access) {
+            Ok(greeting) => {
+                access.greeting = greeting;
+                Ok((group, access))
+            }
+            Err(_) => {
+                drop((group, access));
+                Err(TaskFault::Memory)
+            }
+        },
         Err(fault) => {
             drop(group);
             Err(fault)

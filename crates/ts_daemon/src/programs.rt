@@ -13,7 +13,8 @@ use ts_answer::Answers;
 use ts_cli::ServeWords;
 use ts_disk::Disk;
 use ts_files::{
-    MAX_TABLE, RecordLock, TaskFault, format_files, migrate_files, open_disks, read_within,
+    MAX_TABLE, RecordLock, TaskFault, format_files, migrate_files, open_disks, output_fault,
+    read_within,
 };
 use ts_loop::{LoopFault, serve_all};
 use ts_memo::{MemoCheck, ServedCheck};
@@ -41,10 +42,7 @@ pub fn format_record(
     requires few { nodes ≤ 9 }
 {
     format_files(rt, rt.alloc(), file, node, nodes, group)?;
-    match println!(rt; "formatted") {
-        Ok(()) => Ok(()),
-        Err(_) => Err(TaskFault::Write),
-    }
+    println!(rt; "formatted").map_err(output_fault)
 }
 
 /// Makes a record from one of version 1, and says how many facts it holds.
@@ -58,10 +56,7 @@ pub fn migrate_record(
     new: &str,
 ) -> Result<(), TaskFault> {
     let facts = migrate_files(rt, rt.alloc(), old, new)?;
-    match println!(rt; "migrated {facts}") {
-        Ok(()) => Ok(()),
-        Err(_) => Err(TaskFault::Write),
-    }
+    println!(rt; "migrated {facts}").map_err(output_fault)
 }
 
 /// The table of signatures in a file.

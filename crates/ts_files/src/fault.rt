@@ -14,7 +14,7 @@ use ts_sig::TableFault;
 use ts_synod::NodeFault;
 use ts_wire::FrameFault;
 
-/// Why a task fails. The program prints its name, and ends with 1.
+/// Why a task fails. The program prints its name, unless it is `Closed`, and ends with 1.
 #[derive(Clone, Copy, Debug, PartialEq, Eq)]
 pub enum TaskFault {
     /// Memory was refused.
@@ -49,6 +49,8 @@ pub enum TaskFault {
     Read,
     /// A connection was not made, or a write failed.
     Write,
+    /// Whoever reads standard output has closed it.
+    Closed,
     /// A stream had not ended after 16,777,216 reads; or more was answered than was asked for.
     ReadLimit,
     /// A stream ended within a frame, or before the answer.
@@ -83,7 +85,7 @@ impl fmt::Display for TaskFault {
             ),
             TaskFault::Record(fault) => record_name(*fault),
             TaskFault::Read => "Read",
-            TaskFault::Write => "Write",
+            TaskFault::Write | TaskFault::Closed => "Write",
             TaskFault::ReadLimit => "ReadLimit",
             TaskFault::Cut => "Cut",
             TaskFault::Node(fault) => fault_name(*fault),

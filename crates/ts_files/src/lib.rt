@@ -51,5 +51,5 @@ pub use locking::RecordLock;
 pub use material::{
     certificate_of, certificates_of, crl_of, is_certificate, octets_of, values_in, values_of,
 };
-pub use printing::{put, say};
+pub use printing::{output_fault, put, say};
 pub use vouching::{issuers_in, vouch_by, vouch_for_file};

@@ -3,7 +3,7 @@
 use std::io::Print;
 use std::random::RandomSource;
 use ts_access::{Key, Role, key_line};
-use ts_files::TaskFault;
+use ts_files::{TaskFault, output_fault};
 use ts_keyring::draw;
 
 /// Octets that nobody else draws.
@@ -27,8 +27,5 @@ pub fn print_key(
         secret: random_octets(rt)?,
     };
     let line = key_line(rt.alloc(), &key)?;
-    match println!(rt; "{line}") {
-        Ok(()) => Ok(()),
-        Err(_) => Err(TaskFault::Write),
-    }
+    println!(rt; "{line}").map_err(output_fault)
 }

@@ -8,8 +8,9 @@ use ts_cli::{
     CommandAction, CommandWords, QuestionWords, command_octets, id_text, question_octets,
 };
 use ts_files::{
-    MAX_SHOWN, TaskFault, certificate_of, certificates_of, crl_of, draw_id, octets_of, put,
-    read_at_most, read_within, say_other, second, values_in, values_of, vouch_for_file,
+    MAX_SHOWN, TaskFault, certificate_of, certificates_of, crl_of, draw_id, octets_of,
+    output_fault, put, read_at_most, read_within, say_other, second, values_in, values_of,
+    vouch_for_file,
 };
 use ts_pem::{PemFault, is_pem, read_certificates, read_crls};
 use ts_show::{Kind, show};
@@ -82,8 +83,8 @@ pub fn make_question(
 ///
 /// # Errors
 ///
-/// Those of the file; `Field` where a block is broken, or a text of PEM has neither certificates nor
-/// CRLs; `Write`.
+/// Those of the file; `Field` where a block is broken, or a text of PEM has neither certificates
+/// nor CRLs; `Write`, `Closed`.
 pub fn print_id(
     rt: &(impl AllocGlobal + Files + Print + Eprint),
     file: &str,
@@ -95,9 +96,7 @@ pub fn print_id(
     }
     for octets in &values {
         let text = id_text(alloc, octets)?;
-        if println!(rt; "{text}").is_err() {
-            return Err(TaskFault::Write);
-        }
+        println!(rt; "{text}").map_err(output_fault)?;
     }
     Ok(())
 }
