@@ -12,7 +12,7 @@ pub enum KeysFault {
     Line(u32),
     /// This number is named twice.
     Twice(u32),
-    /// There are more than 4,096 keys, or 4 GiB of octets or more.
+    /// There are more than 4,096 keys, or 4,294,967,295 octets or more.
     TooMany,
 }
 

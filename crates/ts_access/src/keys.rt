@@ -141,7 +141,7 @@ fn push_line(keys: &mut Vec<Key>, line: &[u8], number: u32) -> Result<(), KeysFa
 /// # Errors
 ///
 /// The first line that is wrong: none of these, a number that an earlier line has named, or one
-/// key more than 4,096; a text of 4 GiB or more; memory that is refused.
+/// key more than 4,096; a text of 4,294,967,295 octets or more; memory that is refused.
 pub fn read_keys(alloc: Global, text: &[u8]) -> Result<Vec<Key>, KeysFault>
     ensures found { IfOk result (λ keys. Adds [] (lines_of text.now) keys.items) }
     ensures fault { IfErr result (IsRefused text.now) }

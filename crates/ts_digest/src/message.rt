@@ -18,9 +18,10 @@ pub struct Digest {
 }
 
 impl Digest {
-    /// The hash of octets.
+    /// The hash of octets by a function.
     pub fn of(hash: Hash, octets: &[u8]) -> Digest
-        ensures { IsDigestOf result octets.now }
+        ensures hash { result.hash ≡ hash }
+        ensures digest { IsDigestOf result octets.now }
     {
         Digest {
             hash,

@@ -7,9 +7,9 @@
 //!
 //! What is proved of [`is_ed25519_signature`]: it is true exactly if
 //!
-//! - the key has 32 octets that decode as a point A (`decode`, RFC 8032 5.1.3): the lowest 255 bits
-//!   are below p, they are the second coordinate of a point, and a first coordinate of 0 has the
-//!   sign 0;
+//! - the key has 32 octets that decode as a point A by the steps of RFC 8032 5.1.3 (`decode`): the
+//!   lowest 255 bits are below p, one of the two candidates of step 2 and 3 is a first coordinate
+//!   for them as the second, and a first coordinate of 0 has the sign 0;
 //! - the signature has 64 octets, whose first half decodes as a point R, and whose second half is a
 //!   number S below the order L of the base point;
 //! - `[S]B = R + [k]A`, where k is the number of `SHA-512(R || A || M)` modulo L

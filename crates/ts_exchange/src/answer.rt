@@ -1,7 +1,8 @@
 //! Requests are written, and answers read.
 
-ghost use Rattle.std.specs.Prelude.{◌≡◌, None, IfOk, IfErr, MatchResult, string_bytes};
-ghost use Rattle.ts_wire.specs.Frames.{FrameFits, frame_encoding};
+ghost use Rattle.std.specs.Prelude.{◌≡◌, ◌≤◌, ◌+◌, None, IfOk, IfErr, MatchResult, length};
+ghost use Rattle.std.specs.Prelude.{string_bytes};
+ghost use Rattle.ts_wire.specs.Frames.{FrameFits, frame_encoding, frame_fields};
 ghost use Rattle.ts_wire.specs.declared.frame.Frame.TheVariants.{Answer as AnswerFrame};
 ghost use Rattle.ts_exchange.specs.Answers.{IsNoAnswer, IsOther, IsTooLong, fault_in};
 ghost use Rattle.ts_exchange.specs.Lines.{ask_words};
@@ -19,6 +20,7 @@ use ts_wire::{Feed, FeedError, Frame, FrameFault, WriteError, write_frame};
 /// `Frame(Length)` exactly where they are more than a frame may have; `Memory`.
 pub fn request_octets(alloc: Global, request: &Frame) -> Result<Vec<u8>, ExchangeFault>
     ensures encoded { IfOk result (λ octets. octets.items ≡ frame_encoding request.now) }
+    ensures short { IfOk result (λ _. 2 + length (frame_fields request.now) ≤ 8388608) }
     ensures fault { IfErr result (IsTooLong request.now) }
 {
     let mut octets = Vec::new(alloc);

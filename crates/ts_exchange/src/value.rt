@@ -20,7 +20,8 @@ pub struct Value {
 impl Value {
     /// A value of a file.
     pub fn new(file: String, octets: Vec<u8>) -> Value
-        ensures { result.octets ≡ octets }
+        ensures file { result.file ≡ file }
+        ensures octets { result.octets ≡ octets }
     {
         Value {
             id: digest(&octets),

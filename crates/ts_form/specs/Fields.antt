@@ -1,6 +1,6 @@
 -- The fields of a question: what a text says of each, and when it is refused.
-use Rattle.std.specs.Prelude.{◌≡◌, ◌≢◌, ◌⊎◌, ℕ, ℤ, List, [], ◌∷◌, ◌++◌, Bool, true, false, map}
-use Rattle.std.specs.Prelude.{codes}
+use Rattle.std.specs.Prelude.{◌≡◌, ◌≢◌, ◌⊎◌, ◌&&◌, ℕ, ℤ, List, [], ◌∷◌, ◌++◌, Bool, true, false}
+use Rattle.std.specs.Prelude.{codes, length, map, nat_eq, not}
 use Rattle.std.specs.Prelude.{Option, Some, None, if◌then◌else◌, ◌||◌}
 use Rattle.std.specs.Str.{bytes_eq}
 use Rattle.std.specs.declared.vec.Vec.{Vec}
@@ -100,11 +100,16 @@ Adds Anchor text old new = (anchor : List ℕ) × IsHex 32 text anchor × (old.a
     × (new ≡ record old { anchor = Some anchor })
 Adds field text old new = SetsFlag field text old new
 
--- a pair names a field, and says this of it; an empty text says nothing, but sets a flag
+-- an empty text says nothing, but of a flag
+abbrev pub says_nothing : Field → List ℕ → Bool
+says_nothing field text = nat_eq (length text) 0 && not (is_flag field)
+
+-- a pair names a field, and says this of it, or nothing
 pub record Sets (pair : NamedValue) (old new : WantedFields) : Type 0 where
   pub field : Field
   pub named : field_named pair.0 ≡ Some field
-  pub adds : ((pair.1 ≡ []) × (is_flag field ≡ false) × (new ≡ old)) ⊎ Adds field pair.1 old new
+  pub adds : ((says_nothing field pair.1 ≡ true) × (new ≡ old))
+      ⊎ ((says_nothing field pair.1 ≡ false) × Adds field pair.1 old new)
 
 -- ---- refusals
 
@@ -137,6 +142,7 @@ IsRefusedIn field text old fault = ⊥
 pub record IsWrong (pair : NamedValue) (old : WantedFields) (fault : FormFault) : Type 0 where
   pub field : Field
   pub named : field_named pair.0 ≡ Some field
+  pub says : says_nothing field pair.1 ≡ false
   pub refused : IsRefusedIn field pair.1 old fault
 
 -- why a pair is refused: memory, no field has its name, or what it says of one

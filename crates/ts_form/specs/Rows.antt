@@ -29,7 +29,7 @@ Adds other text old new = ⊥
 pub record Sets (pair : NamedValue) (old new : RowsWanted) : Type 0 where
   pub field : Field
   pub named : field_named pair.0 ≡ Some field
-  pub adds : ((pair.1 ≡ []) × (new ≡ old)) ⊎ Adds field pair.1 old new
+  pub adds : ((pair.1 ≡ []) × (new ≡ old)) ⊎ ((pair.1 ≢ []) × Adds field pair.1 old new)
 
 abbrev pub SetsAll : List NamedValue → RowsWanted → RowsWanted → Type 0
 SetsAll pairs old new = SetsEach Sets pairs old new
@@ -47,6 +47,7 @@ IsRefusedIn field text old fault = ⊥
 pub record IsWrong (pair : NamedValue) (old : RowsWanted) (fault : FormFault) : Type 0 where
   pub field : Field
   pub named : field_named pair.0 ≡ Some field
+  pub says : pair.1 ≢ []
   pub refused : IsRefusedIn field pair.1 old fault
 
 -- why a pair is refused: no field of a page has its name, or what it says of one

@@ -170,8 +170,8 @@ impl WantedFields {
     /// # Errors
     ///
     /// `Name` exactly where no field of a question has this name; `Value` and `Twice` exactly where
-    /// the text is no value of its field, or the field is given and is given once; `Memory`. What
-    /// was wanted before may be lost then.
+    /// the text is not empty or the field a flag, and it is no value of its field, or the field is
+    /// given and is given once; `Memory`. What was wanted before may be lost then.
     pub fn add(&mut self, alloc: Global, name: &str, value: &str) -> Result<(), FormFault>
         ensures sets { OnOk result (Sets (name.now, value.now) self.old self.new) }
         ensures refused { IfErr result (IsRefused (name.now, value.now) self.old) }

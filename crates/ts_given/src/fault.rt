@@ -1,6 +1,7 @@
 //! Why nothing is judged.
 
-ghost use Rattle.std.specs.Prelude.{◌≡◌};
+ghost use Rattle.std.specs.Prelude.{◌≡◌, Some};
+ghost use Rattle.ts_given.specs.Printed.{given_text};
 ghost use Rattle.ts_given.specs.declared.fault.GivenFault.TheVariants.{Memory};
 
 use std::alloc::{AllocError, AllocFailed};
@@ -25,6 +26,8 @@ pub enum GivenFault<'a> {
 
 /// What is wrong, in plain words.
 impl fmt::Display for GivenFault<'_> {
+    ghost output = { λ fault. Some (given_text fault) };
+
     fn fmt<W: fmt::Write>(&self, f: &mut fmt::Formatter<W>) -> fmt::Result {
         match self {
             GivenFault::Memory => f.write_str("out of memory"),

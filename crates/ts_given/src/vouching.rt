@@ -1,9 +1,10 @@
 //! A CRL is looked at before it is loaded.
 
-ghost use Rattle.std.specs.Prelude.{◌≡◌, map};
+ghost use Rattle.std.specs.Prelude.{◌≡◌, Some, map};
 ghost use Rattle.ts_der.specs.Answer.{refusal};
 ghost use Rattle.ts_cert.specs.CertView.{cert_in};
 ghost use Rattle.ts_crl.specs.Table.{crl_of};
+ghost use Rattle.ts_given.specs.Printed.{doubt_text};
 ghost use Rattle.ts_given.specs.Vouching.{doubt_about};
 
 use std::fmt;
@@ -24,6 +25,8 @@ pub enum CrlDoubt {
 
 /// What speaks against it, in plain words.
 impl fmt::Display for CrlDoubt {
+    ghost output = { λ doubt. Some (doubt_text doubt) };
+
     fn fmt<W: fmt::Write>(&self, f: &mut fmt::Formatter<W>) -> fmt::Result {
         match self {
             CrlDoubt::NoCrl => f.write_str("no CRL that a store takes"),

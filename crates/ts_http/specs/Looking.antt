@@ -1,5 +1,5 @@
 -- What octets begin with, by the calls of `http1` that read them.
-use Rattle.std.specs.Prelude.{◌≡◌, ◌⊎◌, ◌≤◌, ℕ, List, length}
+use Rattle.std.specs.Prelude.{◌≡◌, ◌⊎◌, ◌≤◌, ℕ, Bool, true, false, List, length}
 use Rattle.httparse.specs.Spans.{span_bytes}
 use Rattle.httparse.specs.declared.spans.HeaderSpan.{HeaderSpan}
 use Rattle.httparse.specs.declared.spans.RequestSpans.{RequestSpans}
@@ -61,23 +61,41 @@ pub record ReadsEnd (old : Server) (octets : List ℕ) (new : Server) (count : �
   pub read : Reads old octets spans new count (events.End trailers)
   pub within : count ≤ length octets
 
--- the read gave something else
-pub record IsElse (old : Server) (octets : List ℕ) (new : Server) : Type 0 where
+-- what a read may give where a head is due, and within a body
+abbrev pub is_of_head : Event RequestSpans → Bool
+is_of_head (events.Head head) = true
+is_of_head events.NeedMore = true
+is_of_head other = false
+
+abbrev pub is_of_body : Event RequestSpans → Bool
+is_of_body (events.Data span) = true
+is_of_body (events.End trailers) = true
+is_of_body events.NeedMore = true
+is_of_body other = false
+
+-- the read gave something else, which is answered by 400
+pub record IsElse (may : Event RequestSpans → Bool) (old : Server) (octets : List ℕ) (new : Server)
+    (status : ℕ) : Type 0 where
   pub spans : List HeaderSpan
   pub count : ℕ
   pub event : Event RequestSpans
   pub read : Reads old octets spans new count event
+  pub other : may event ≡ false
+  pub status_is : status ≡ 400
+
+-- what came is no message that is taken
+abbrev pub IsNone : (Event RequestSpans → Bool) → Server → List ℕ → Server → ℕ → Type 0
+IsNone may old octets new status =
+    Refuses old octets new status ⊎ IsElse may old octets new status
 
 abbrev pub FindsHead : Server → List ℕ → Server → Head → Type 0
 FindsHead old octets new (heads.Came r count) = ReadsHead old octets new r count
 FindsHead old octets new (heads.Nothing count) = Starves old octets new count
-FindsHead old octets new (heads.Wrong status) =
-    Refuses old octets new status ⊎ IsElse old octets new
+FindsHead old octets new (heads.Wrong status) = IsNone is_of_head old octets new status
 
 abbrev pub FindsBody : Server → List ℕ → Server → Piece → Type 0
 FindsBody old octets new (pieces.Came piece count) =
     ReadsPiece old octets new piece.items count
 FindsBody old octets new (pieces.Nothing count) = Starves old octets new count
 FindsBody old octets new (pieces.End count) = ReadsEnd old octets new count
-FindsBody old octets new (pieces.Wrong status) =
-    Refuses old octets new status ⊎ IsElse old octets new
+FindsBody old octets new (pieces.Wrong status) = IsNone is_of_body old octets new status

@@ -1,7 +1,9 @@
 -- What the calls of a connection do: each is one of these moves.
-use Rattle.std.specs.Prelude.{◌≡◌, ◌⊎◌, ◌<◌, ◌+◌, ◌++◌, ℕ, Bool, true, false, List, [], length}
-use Rattle.std.specs.Prelude.{drop, nat_lt, ◌||◌}
+use Rattle.std.specs.Prelude.{◌≡◌, ◌⊎◌, ◌<◌, ◌≤◌, ◌+◌, ◌++◌, ℕ, Bool, true, false, List, []}
+use Rattle.std.specs.Prelude.{drop, length, nat_lt, ◌||◌}
 use Rattle.std.specs.Prelude.{Option, Some, None, codes}
+use Rattle.httparse.specs.declared.spans.RequestSpans.{RequestSpans}
+use Rattle.http1.specs.declared.conn.Event.{Event}
 use Rattle.http1.specs.declared.conn.Limits.{Limits}
 use Rattle.http1.specs.declared.server.Server.{Server}
 use Rattle.http1.specs.Fields.{Header}
@@ -11,7 +13,8 @@ use Rattle.http1.specs.Server.{after_informational, expects_continue, has_coding
 use Rattle.http1.specs.Server.{IsClosed, new_server, reading}
 use Rattle.http1.specs.Conn.{unread_size}
 use Rattle.http1.specs.declared.conn.BodySize.TheVariants.{Known}
-use Rattle.ts_http.specs.Looking.{IsElse, ReadsEnd, ReadsHead, ReadsPiece, Refuses, Starves}
+use Rattle.ts_http.specs.Looking.{IsNone, ReadsEnd, ReadsHead, ReadsPiece, Starves, is_of_body}
+use Rattle.ts_http.specs.Looking.{is_of_head}
 use Rattle.ts_http.specs.Writing.{IsWritten, closing}
 use Rattle.ts_http.specs.declared.connection.Connection.{Connection}
 use Rattle.ts_http.specs.declared.connection.Stage.{Stage}
@@ -104,14 +107,15 @@ IsUnwanted server status = ((status ≡ 501) × (has_codings server ≡ true))
 abbrev pub BeginsBody : Connection → Request → Connection → Type 0
 BeginsBody a r b =
     ((server : Server) × (out : List ℕ) × Invites a server out
-    × Has b server (stages.Body r) a.input out)
+    × Has b server (stages.Body r) a.input out
+    × ((status : ℕ) → ¬ (IsUnwanted a.server status)))
     ⊎ ((status : ℕ) × IsUnwanted a.server status
     × Has b a.server (stages.Wrong status (is_head (method_kind r.method.items))) a.input a.out)
 
 -- what came is no message that is taken
-abbrev pub IsRefused : Connection → Bool → Connection → Type 0
-IsRefused a head b = (server : Server) × (status : ℕ)
-    × (Refuses a.server a.input server status ⊎ IsElse a.server a.input server)
+abbrev pub IsRefused : (Event RequestSpans → Bool) → Connection → Bool → Connection → Type 0
+IsRefused may a head b = (server : Server) × (status : ℕ)
+    × IsNone may a.server a.input server status
     × Has b server (stages.Wrong status head) a.input a.out
 
 -- more came of what is read, and is not whole
@@ -133,7 +137,7 @@ HasBegun a b = (r : Request) × (server : Server) × (count : ℕ)
     × (mid : Connection) × IsPast a.input a.out server count mid × BeginsBody mid r b
 
 abbrev pub FromHead : Connection → Connection → Type 0
-FromHead a b = HasBegun a b ⊎ HasStarved a stages.Head b ⊎ IsRefused a false b
+FromHead a b = HasBegun a b ⊎ HasStarved a stages.Head b ⊎ IsRefused is_of_head a false b
 
 -- a request with a longer body
 pub record IsLonger (r : Request) (piece : List ℕ) (s : Request) : Type 0 where
@@ -145,7 +149,8 @@ pub record IsLonger (r : Request) (piece : List ℕ) (s : Request) : Type 0 wher
 -- a piece of a body is behind it, unless that is too long then
 abbrev pub TakesPiece : Connection → Request → List ℕ → Connection → Type 0
 TakesPiece a r piece b =
-    ((s : Request) × IsLonger r piece s × Has b a.server (stages.Body s) a.input a.out)
+    ((s : Request) × IsLonger r piece s × Has b a.server (stages.Body s) a.input a.out
+    × (length r.body.items + length piece ≤ 8388608))
     ⊎ ((8388608 < length r.body.items + length piece)
     × Has b a.server (stages.Wrong 413 (is_head (method_kind r.method.items))) a.input a.out)
 
@@ -162,7 +167,7 @@ HasEnded r a b = (server : Server) × (count : ℕ) × ReadsEnd a.server a.input
 
 abbrev pub FromBody : Request → Connection → Connection → Type 0
 FromBody r a b = HasAdded r a b ⊎ HasEnded r a b ⊎ HasStarved a (stages.Body r) b
-    ⊎ IsRefused a (is_head (method_kind r.method.items)) b
+    ⊎ IsRefused is_of_body a (is_head (method_kind r.method.items)) b
 
 -- nothing but times has changed
 abbrev pub IsSame : Connection → Connection → Type 0

@@ -8,8 +8,8 @@ use Rattle.ts_http.specs.declared.times.Phase.{Phase}
 use Rattle.ts_http.specs.declared.times.Phase.TheVariants.{Idle, Request, Asked, Answer, Ended}
 use Rattle.ts_http.specs.declared.times.Times.{Times}
 
--- a request has a second more for each mebibyte of its body; while the node is asked there is no
--- end
+-- a request has a second more for each mebibyte of its body; while the node is asked it has
+-- 2^64 - 1 milliseconds, which no clock here reaches
 abbrev pub longest : Phase → ℕ → ℕ → ℕ → ℕ
 longest Idle idle request size = idle
 longest Request idle request size = min (2 ^ 64 - 1) (request + size / 1048576 * 1000)

@@ -108,7 +108,7 @@ impl Connection {
         ensures told { IfOk result (IsBehind self.new.stage) }
         ensures times { OnOk result (self.new.times ≡ self.old.times) }
     {
-        if piece.len() > MAX_BODY - request.body.len().min(MAX_BODY) {
+        if request.body.len() + piece.len() > MAX_BODY {
             return Ok(self.fail(TOO_LONG, request.is_head()));
         }
         request.body.extend_from_slice(piece)?;

@@ -38,7 +38,7 @@ quiet_then a b c p q = record {
 }
 
 pub quiet_open : (links others : List Link) (now : ℕ) (slot : Option ℕ) → OpenGives links now slot others → Quiet links others
-quiet_open links others now (Some slot) h = quiet_one links others (event slot now _) refl h
+quiet_open links others now (Some slot) h = quiet_one links others (event slot now _) refl h.0
 quiet_open links others now None h = quiet_none links others h.0
 
 pub quiet_arrive : (links others : List Link) (slot now : ℕ) (piece : List ℕ) (r : Result (Unit {0}) ArriveFault) → ArriveGives links slot piece now r others → Quiet links others

@@ -15,16 +15,20 @@ use Rattle.ts_links.specs.Events.{Change, event}
 abbrev pub At : List Link → ℕ → (Link → Type 0) → Type 0
 At links slot P = (link : Link) → slice_get links slot ≡ Some link → P link
 
--- a closed slot; or each of the first so many is open
-abbrev pub FirstClosed : List Link → ℕ → Option ℕ → Type 0
-FirstClosed links n (Some slot) =
-    (slot < length links) × At links slot (λ link. link.stage ≡ stages.Closed)
-FirstClosed links n None =
-    (slot : ℕ) → slot < n → At links slot (λ link. is_open link.stage ≡ true)
+-- each of the first so many slots is open
+abbrev pub AreOpen : List Link → ℕ → Type 0
+AreOpen links n = (slot : ℕ) → slot < n → At links slot (λ link. is_open link.stage ≡ true)
 
--- a slot was closed and is opened; or each is open
+-- the first closed slot; or each of the first so many is open
+abbrev pub FirstClosed : List Link → ℕ → Option ℕ → Type 0
+FirstClosed links n (Some slot) = (slot < length links)
+    × At links slot (λ link. link.stage ≡ stages.Closed) × AreOpen links slot
+FirstClosed links n None = AreOpen links n
+
+-- the first slot that was closed is opened; or each is open
 abbrev pub OpenGives : List Link → ℕ → Option ℕ → List Link → Type 0
-OpenGives links now (Some slot) others = Change links (event slot now Opened) others
+OpenGives links now (Some slot) others =
+    Change links (event slot now Opened) others × AreOpen links slot
 OpenGives links now None others =
     (others ≡ links) × ((slot : ℕ) → At links slot (λ link. is_open link.stage ≡ true))
 
@@ -52,6 +56,11 @@ IsIdlest links n (Some slot) = (link : Link) × (slice_get links slot ≡ Some l
     × ((other : ℕ) → other < n
     → At links other (λ b. IsIdle b → link.times.idle ≤ b.times.idle))
 IsIdlest links n None = (other : ℕ) → other < n → At links other (λ b. IsIdle b → ⊥)
+
+-- more may be read on a slot: it is open and has room
+abbrev pub MayRead : List Link → ℕ → Type 0
+MayRead links slot = (link : Link) × (slice_get links slot ≡ Some link)
+    × (link.stage ≡ stages.Open) × HasRoom link
 
 -- ---- what a slot has; one that is not there is closed
 

@@ -1,8 +1,9 @@
 //! What a loop asks of the connections.
 
-ghost use Rattle.std.specs.Prelude.{◌≡◌, ◌+◌, ◌<◌, ◌≤◌, true, length};
+ghost use Rattle.std.specs.Prelude.{◌≡◌, ◌↔◌, ◌+◌, ◌<◌, ◌≤◌, IsTrue, true, length};
 ghost use Rattle.ts_links.specs.Moves.{IsIdle};
-ghost use Rattle.ts_links.specs.Table.{IsIdlest, held_at, is_late_at, stage_at, waits_at};
+ghost use Rattle.ts_links.specs.Table.{IsIdlest, MayRead, held_at, is_late_at, stage_at};
+ghost use Rattle.ts_links.specs.Table.{waits_at};
 
 use crate::connections::Connections;
 use crate::link::{Link, Stage};
@@ -64,7 +65,9 @@ impl Connections {
     }
 
     /// Whether more may be read on a slot: it is open and has room.
-    pub fn reads(&self, slot: usize) -> bool {
+    pub fn reads(&self, slot: usize) -> bool
+        ensures { IsTrue result ↔ MayRead self.now.links.items slot }
+    {
         match self.links.get(slot) {
             Some(link) => link.stage == Stage::Open && link.has_room(),
             None => false,

@@ -1,6 +1,7 @@
 //! The calls on all connections, by what a loop over them keeps.
 
-ghost use Rattle.ts_links.specs.Calls.{HasReached, IsQuiet};
+ghost use Rattle.ts_links.specs.Calls.{HasArrived, HasClosed, HasReached, IsQuiet};
+ghost use Rattle.ts_links.specs.Table.{LeaveGives, OpenGives};
 
 use crate::connections::Connections;
 use crate::link::TakeResult;
@@ -8,28 +9,33 @@ use crate::service::Service;
 
 /// `Connections::open`.
 pub fn open(table: &mut Connections, now: u64) -> Option<usize>
-    ensures { IsQuiet table.old table.new }
+    ensures quiet { IsQuiet table.old table.new }
+    ensures opens { OpenGives table.old.links.items now result table.new.links.items }
 {
     table.open(now)
 }
 
 /// `Connections::arrive`. Whether the octets were taken.
 pub fn arrive(table: &mut Connections, slot: usize, piece: &[u8], now: u64) -> bool
-    ensures { IsQuiet table.old table.new }
+    ensures quiet { IsQuiet table.old table.new }
+    ensures arrives { HasArrived table.old slot piece.now now result table.new }
 {
     table.arrive(slot, piece, now).is_ok()
 }
 
 /// `Connections::leave`.
 pub fn leave(table: &mut Connections, slot: usize, count: usize, now: u64) -> bool
-    ensures { IsQuiet table.old table.new }
+    ensures quiet { IsQuiet table.old table.new }
+    ensures leaves { LeaveGives table.old.links.items slot count now result
+        table.new.links.items }
 {
     table.leave(slot, count, now)
 }
 
 /// `Connections::close`.
 pub fn close(table: &mut Connections, slot: usize) -> bool
-    ensures { IsQuiet table.old table.new }
+    ensures quiet { IsQuiet table.old table.new }
+    ensures closes { HasClosed table.old slot result table.new }
 {
     table.close(slot)
 }

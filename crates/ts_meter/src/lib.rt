@@ -2,7 +2,7 @@
 //!
 //! ```text
 //! let meter = Meter::new();
-//! let mut disk = Metered::new(disk, &meter);
+//! let mut disk = MeteredDisk::new(disk, &meter);
 //! disk.sync()?;
 //! let syncs = meter.syncs();               // 1
 //! ```

@@ -1,4 +1,5 @@
 pub mod Pem
+pub mod Printed
 pub mod Files
 pub mod Blocks
 pub mod inside

@@ -1,6 +1,7 @@
 //! What is wrong with a text.
 
-ghost use Rattle.std.specs.Prelude.{◌≡◌};
+ghost use Rattle.std.specs.Prelude.{◌≡◌, Some};
+ghost use Rattle.ts_pem.specs.Printed.{fault_text};
 ghost use Rattle.ts_pem.specs.declared.fault.PemFault.TheVariants.{OutOfMemory as NoMemory};
 
 use std::alloc::AllocError;
@@ -23,14 +24,16 @@ pub enum PemFault {
     OutOfMemory,
 }
 
+/// What is wrong, in plain words, behind the number of the line.
 impl fmt::Display for PemFault {
+    ghost output = { λ fault. Some (fault_text fault) };
+
     fn fmt<W: fmt::Write>(&self, f: &mut fmt::Formatter<W>) -> fmt::Result {
         match *self {
             PemFault::NoEnd(line) => write!(f, "line {line}: the block has no end"),
-            PemFault::NoBegin(line) => write!(
-                f,
-                "line {line}: the end of a block that has no begin"
-            ),
+            PemFault::NoBegin(line) => {
+                write!(f, "line {line}: the end of a block that has no begin")
+            }
             PemFault::OtherEnd(line) => write!(f, "line {line}: the end of another label"),
             PemFault::NotBase64(line) => write!(f, "line {line}: no base64"),
             PemFault::OutOfMemory => write!(f, "out of memory"),

@@ -1,5 +1,8 @@
 //! Why a CRL is not vouched for.
 
+ghost use Rattle.std.specs.Prelude.{Some};
+ghost use Rattle.ts_revoke.specs.Printed.{doubt_text};
+
 use std::fmt;
 
 /// What speaks against a CRL, in the order in which it is looked for.
@@ -17,6 +20,8 @@ pub enum Doubt {
 
 /// What speaks against the CRL, in plain words, with the section of RFC 5280.
 impl fmt::Display for Doubt {
+    ghost output = { λ doubt. Some (doubt_text doubt) };
+
     fn fmt<W: fmt::Write>(&self, f: &mut fmt::Formatter<W>) -> fmt::Result {
         let text = match self {
             Doubt::NoIssuer => "no --issuer has its issuer's name and may sign CRLs (6.3.3 (f))",

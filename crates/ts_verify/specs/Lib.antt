@@ -5,3 +5,4 @@ pub mod Report
 pub mod inside
 pub mod Matching
 pub mod Hosts
+pub mod Printed

@@ -1,5 +1,8 @@
 //! Why a text is no host.
 
+ghost use Rattle.std.specs.Prelude.{Some};
+ghost use Rattle.ts_verify.specs.Printed.{fault_text};
+
 use std::{error, fmt};
 
 /// The first rule of host names that a text breaks, which is no address either (RFC 1123 2.1, RFC
@@ -19,7 +22,10 @@ pub enum HostFault {
     Numeric,
 }
 
+/// What is wrong, in plain words.
 impl fmt::Display for HostFault {
+    ghost output = { λ fault. Some (fault_text fault) };
+
     fn fmt<W: fmt::Write>(&self, f: &mut fmt::Formatter<W>) -> fmt::Result {
         let text = match self {
             HostFault::LongName => "more than 253 octets",

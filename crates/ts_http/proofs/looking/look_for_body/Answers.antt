@@ -1,6 +1,6 @@
 -- The event says what was read.
-use Rattle.std.proofs.Common.{rules, inr}
-use Rattle.ts_http.proofs.Events.{as_read}
+use Rattle.std.proofs.Common.{rules, inr, refl}
+use Rattle.ts_http.proofs.Events.{as_read, not_of_body}
 use Rattle.ts_http.proofs.looking.look_for_body.Goals as goal
 
 pub returns-in_ok-piece-in-Data : goal.returns-in_ok-piece-in-Data
@@ -21,5 +21,11 @@ returns-in-End c = record {
 }
 
 pub returns-in_default : goal.returns-in_default
-returns-in_default c =
-    inr (record { spans = c.read.new.headers; count = c.in-Ok.read.consumed; event = c.in-Ok.read.event; read = c.in-Ok.ensures.ok })
+returns-in_default c = inr (record {
+  spans = c.read.new.headers;
+  count = c.in-Ok.read.consumed;
+  event = c.in-Ok.read.event;
+  read = c.in-Ok.ensures.ok;
+  other = not_of_body _ c.in_default.not-NeedMore c.in_default.not-Data c.in_default.not-End;
+  status_is = refl;
+})

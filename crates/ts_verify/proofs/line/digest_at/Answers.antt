@@ -11,4 +11,4 @@ pub returns : goal.returns
 returns c = λ cert is.
     let at = at_place cert_in c.args.certificates.now c.args.place c.index-certificates-place.result c.requires c.index-certificates-place.is in
     let same = same_Some (cert_in c.index-certificates-place.result) cert (sym at ∙ is) in
-    subst (λ (octets : List ℕ). IsDigestOf c.of.result octets) (c.tbs.ensures ∙ ap (λ (x : Certificate). x.tbs) same) c.of.ensures
+    subst (λ (octets : List ℕ). IsDigestOf c.of.result octets) (c.tbs.ensures ∙ ap (λ (x : Certificate). x.tbs) same) c.of.ensures.digest
