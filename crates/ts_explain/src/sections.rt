@@ -25,7 +25,7 @@ pub fn section<O>(reason: &Reason<O>) -> &'static str
         Reason::NotCa => "5280 6.1.4 (k)",
         Reason::PathLength => "5280 6.1.4 (l)",
         Reason::KeyUsage => "5280 6.1.4 (n)",
-        Reason::CriticalExtension(_) => "5280 6.1.4 (o)",
+        Reason::CriticalExtension(_) => "5280 6.1.4 (o), 6.1.5 (f)",
         Reason::FinalPolicy => "5280 6.1.5 (g)",
         Reason::Purpose => "5280 4.2.1.12",
     }

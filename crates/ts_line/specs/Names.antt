@@ -24,6 +24,10 @@ oid_text content = if is_oid content then printable (dotted_form content) else h
 abbrev pub email_address : List ℕ
 email_address = 42 ∷ 134 ∷ 72 ∷ 134 ∷ 247 ∷ 13 ∷ 1 ∷ 9 ∷ 1 ∷ []
 
+-- an attribute type of RFC 4519: 0.9.2342.19200300.100.1 and one arc
+abbrev pub pilot_type : ℕ → List ℕ
+pilot_type arc = 9 ∷ 146 ∷ 38 ∷ 137 ∷ 147 ∷ 242 ∷ 44 ∷ 100 ∷ 1 ∷ arc ∷ []
+
 -- an attribute type of X.520: 2.5.4 and one arc
 abbrev pub attribute_type : ℕ → List ℕ
 attribute_type arc = 85 ∷ 4 ∷ arc ∷ []
@@ -37,7 +41,10 @@ short_name kind =
     else (if bytes_eq kind (attribute_type 6) then Some (codes "C")
     else (if bytes_eq kind (attribute_type 7) then Some (codes "L")
     else (if bytes_eq kind (attribute_type 8) then Some (codes "ST")
-    else (if bytes_eq kind email_address then Some (codes "emailAddress") else None))))))
+    else (if bytes_eq kind (attribute_type 9) then Some (codes "STREET")
+    else (if bytes_eq kind (pilot_type 1) then Some (codes "UID")
+    else (if bytes_eq kind (pilot_type 25) then Some (codes "DC")
+    else (if bytes_eq kind email_address then Some (codes "emailAddress") else None)))))))))
 
 -- a type of attribute by its short name, or in dotted form
 abbrev pub type_text : List ℕ → List ℕ

@@ -14,6 +14,12 @@ use std::alloc::{AllocError, Global};
 use ts_der::OidRef;
 use ts_name::{Attribute, General, Name, Rdn};
 
+/// The contents octets of uid, 0.9.2342.19200300.100.1.1 (RFC 4519 2.39).
+const USER_ID: &[u8] = &[0x09, 0x92, 0x26, 0x89, 0x93, 0xf2, 0x2c, 0x64, 0x01, 0x01];
+
+/// The contents octets of dc, 0.9.2342.19200300.100.1.25 (RFC 4519 2.4).
+const DOMAIN_COMPONENT: &[u8] = &[0x09, 0x92, 0x26, 0x89, 0x93, 0xf2, 0x2c, 0x64, 0x01, 0x19];
+
 /// The contents octets of emailAddress, 1.2.840.113549.1.9.1 (RFC 5280 4.1.2.6).
 const EMAIL_ADDRESS: &[u8] = &[0x2a, 0x86, 0x48, 0x86, 0xf7, 0x0d, 0x01, 0x09, 0x01];
 
@@ -43,6 +49,9 @@ fn short_name(kind: &[u8]) -> Option<&'static str>
         b"\x55\x04\x06" => Some("C"),
         b"\x55\x04\x07" => Some("L"),
         b"\x55\x04\x08" => Some("ST"),
+        b"\x55\x04\x09" => Some("STREET"),
+        _ if kind == USER_ID => Some("UID"),
+        _ if kind == DOMAIN_COMPONENT => Some("DC"),
         _ if kind == EMAIL_ADDRESS => Some("emailAddress"),
         _ => None,
     }
