@@ -19,7 +19,9 @@ with_room budget [] = []
 with_room budget (frame ∷ frames) = if has_room budget (frame ∷ frames) then frame ∷ frames
     else with_room budget frames
 
--- a frame behind the others, of which so many are left that they all have at most `most` octets
+-- A frame behind the others, of which so many are left that there is room for it: fewer than 256,
+-- and with it they have at most `most` octets. A frame that has more than that by itself is put all
+-- the same, once no other that is left has an octet.
 abbrev pub with_frame : ℕ → List (Vec ℕ) → Vec ℕ → List (Vec ℕ)
 with_frame most frames frame = with_room (most - length frame.items) frames ++ frame ∷ []
 

@@ -31,11 +31,12 @@
 //! What is proved:
 //!
 //! - [`Mailbox`]: `put`: the frame is behind the others, of which the oldest have gone, one after
-//!   another, until they are fewer than 256 and have, with it, at most so many octets; where memory
-//!   is refused, it is lost too. `make_room`: the oldest go so, and no frame comes. `fill`: frames
-//!   are made ready one after another until 16,384 octets are, and no octet is lost, doubled or
-//!   moved, whatever memory there is. `sent`: so many have gone at the front. `cut`: what was being
-//!   sent is lost, and whole frames wait on (`specs/Mailbox`).
+//!   another, until they are fewer than 256 and have, with it, at most so many octets, or, where it
+//!   has more by itself, none; where memory is refused, it is lost too. `make_room`: the oldest go
+//!   so, and no frame comes. `fill`: frames are made ready one after another until 16,384 octets
+//!   are, and no octet is lost, doubled or moved, whatever memory there is. `sent`: so many have
+//!   gone at the front. `cut`: what was being sent is lost, and whole frames wait on
+//!   (`specs/Mailbox`).
 //! - [`Dial`]: each call leaves the state of `specs/Dial`: the next try is after the delay and at
 //!   most half of it more; the delay is 50 ms, doubled at each failure up to 5 s, and 50 ms again
 //!   after a connection that lasted a second.

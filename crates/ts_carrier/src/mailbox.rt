@@ -86,7 +86,8 @@ impl Mailbox {
     }
 
     /// Puts a frame behind the others. Where there is no room for it, as [`MAX_FRAMES`] wait, or it
-    /// and those that wait have more than `most` octets, the oldest of them go: how many do.
+    /// and those that wait have more than `most` octets, the oldest of them go: how many do. One
+    /// that has more than `most` by itself is put all the same.
     ///
     /// # Errors
     ///

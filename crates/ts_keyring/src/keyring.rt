@@ -1,7 +1,7 @@
 //! A file of keys, read again where it has changed.
 
-ghost use Rattle.std.specs.Prelude.{◌≡◌, false};
-ghost use Rattle.ts_keyring.specs.Keyring.{after_reading, is_due};
+ghost use Rattle.std.specs.Prelude.{◌≡◌, ◌≢◌, false, true};
+ghost use Rattle.ts_keyring.specs.Keyring.{HasLooked, after_reading, is_due};
 
 use std::alloc::{AllocError, Global};
 use std::io::Read;
@@ -110,7 +110,8 @@ impl Keyring {
 
     /// Whether the file was changed since the keys were read of it.
     fn has_changed(&self, changed: Option<SystemTime>) -> bool
-        ensures { result ≡ false → self.now.changed ≡ changed }
+        ensures same { result ≡ false → self.now.changed ≡ changed }
+        ensures other { result ≡ true → self.now.changed ≢ changed }
     {
         changed != self.changed
     }
@@ -135,7 +136,8 @@ impl Keyring {
     /// read again a second later: it may be readable then, without a change. Standard error is told
     /// of both, and of a file that can't be used once for each change of it.
     pub fn refresh<R: Files + Eprint>(&mut self, rt: &R, alloc: Global, now: u64)
-        ensures { is_due self.old now ≡ false → self.new ≡ self.old }
+        ensures early { is_due self.old now ≡ false → self.new ≡ self.old }
+        ensures due { is_due self.old now ≡ true → HasLooked now self.old self.new }
     {
         if !self.is_due(now) {
             return;

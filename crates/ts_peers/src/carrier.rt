@@ -5,7 +5,7 @@ ghost use Rattle.std.specs.Prelude.{◌≡◌, ◌⊎◌, ◌<◌, ◌∷◌, �
 ghost use Rattle.std.specs.Prelude.{map, slice_index_or, true};
 ghost use Rattle.ts_carrier.specs.declared.event.FrameEvent.TheVariants.{Submits};
 ghost use Rattle.ts_links.specs.Calls.{HasReached};
-ghost use Rattle.ts_peers.specs.Events.{HasSeen, IsAfter, IsRefused};
+ghost use Rattle.ts_peers.specs.Events.{HasHeard, HasSeen, IsAfter, IsRefused};
 ghost use Rattle.ts_peers.specs.Waiting.{HasSorted, all_lines_pass};
 ghost use Rattle.ts_peers.specs.declared.line.Line.{Line};
 
@@ -207,9 +207,11 @@ impl Carrier {
 
     /// Puts a message on the line to its node. Without one it is lost.
     fn hand_on(&mut self, node: u8, frame: Vec<u8>)
-        ensures { (test : ℕ → List ℕ → Bool) → all_lines_pass test self.old.lines.items ≡ true
+        ensures lines { (test : ℕ → List ℕ → Bool)
+            → all_lines_pass test self.old.lines.items ≡ true
             → test node frame.items ≡ true
             → all_lines_pass test self.new.lines.items ≡ true }
+        ensures gate { self.new.gate ≡ self.old.gate }
     {
         if let Some(place) = self.place_of(node) {
             self.lines[place].put(frame);
@@ -218,6 +220,7 @@ impl Carrier {
 
     /// A message of the node: it may have refused a round of its own.
     fn see_message(&mut self, message: &Message<Command>, now: u64)
+        ensures heard { HasHeard message.now now self.old.gate self.new.gate }
         ensures lines { self.new.lines ≡ self.old.lines }
     {
         if message.from == message.to && matches!(message.body, Body::Busy { .. }) {
@@ -228,8 +231,8 @@ impl Carrier {
     /// Takes the messages that wait at the node. Those to itself are given, in their frames; the
     /// others wait on their lines then.
     fn sort(&mut self, given: &[u8], now: u64) -> Vec<Vec<u8>>
-        ensures { HasSorted given.now self.old.lines.items self.new.lines.items
-            (map (λ frame. frame.items) result.items) }
+        ensures { HasSorted given.now now self.old.lines.items self.new.lines.items
+            self.old.gate self.new.gate (map (λ frame. frame.items) result.items) }
     {
         let mut own = Vec::new(self.alloc);
         for message in messages_in(self.alloc, given) {

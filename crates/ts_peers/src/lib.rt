@@ -20,8 +20,11 @@
 //! - Before a peer has said on a connection that it is the node that is meant, no message is made
 //!   ready to be written to it (`make_ready` of `line.rt`). What each answer says is one definition
 //!   (`specs/Hearing`), and so is what each frame does to the command that is under way
-//!   (`specs/Events`). What waits for the peers is what the node gave, and questions how many
-//!   commands they know (`specs/Waiting`).
+//!   (`specs/Events`), and each message of the node that refuses a round of its own. What waits for
+//!   the peers is what the node gave for other nodes, and questions how many commands they know;
+//!   the node itself is handed what it gave for itself (`specs/Waiting`).
+//! - [`takes_one_frame`], [`says_what_the_frame_says`]: the octets that `ts_carrier` looks at are
+//!   those of a frame of `ts_wire`, and are taken to say what it says.
 //! - What is written to a peer passes `Socket::write` of `ts_sockets`, whose condition is that what
 //!   was answered is kept; so it is one of [`Carrier::tend`].
 //!
@@ -36,6 +39,7 @@ mod carrier;
 mod frames;
 mod group;
 mod hearing;
+mod laws;
 mod line;
 mod seal;
 mod senders;
@@ -45,4 +49,5 @@ pub use asking::ask;
 pub use carrier::{Carrier, PEERS};
 pub use frames::first_of;
 pub use group::{Group, PeerAddress};
+pub use laws::{says_what_the_frame_says, takes_one_frame};
 pub use line::Line;

@@ -1,13 +1,12 @@
 -- What is found among moments so far, and in one slot more.
 use Rattle.std.proofs.Common.{rules, ◌≡◌, ◌≤◌, ◌<◌, ◌⊎◌, inl, inr, ◌∙◌, ℕ, ◌+◌, Bool, true, false, List, Option, None, Some, ap, length, map, refl, slice_index_or, subst, sym, true≢false}
-use Rattle.std.specs.Prelude.{if◌then◌else◌, option_map, slice_get, nat_le, nat_lt}
+use Rattle.std.specs.Prelude.{IfSome, option_map, slice_get}
 use Rattle.std.proofs.lemmas.Bool.{cases_lt}
-use Rattle.std.proofs.lemmas.Bool.Decides.{nat_tests}
 use Rattle.std.proofs.lemmas.List.{length-map}
 use Rattle.std.proofs.lemmas.Option.{slice_get-map, slice_get_read, slice_get_within}
 use native.Mathlib.Omega.{arith}
 use Rattle.ts_sockets.specs.Rooms.{Has, HasNone}
-use Rattle.ts_sockets.specs.inside.Found.{found_with}
+use Rattle.ts_sockets.specs.inside.Found.{IsEarlier, IsLater, IsOneOf}
 
 -- ---- what is looked for
 
@@ -36,6 +35,9 @@ no_moment = None
 not_none : (a : ℕ) → Some (Some a) ≡ Some no_moment → ⊥
 not_none a is = true≢false (ap has_moment is)
 
+no_pair : (f : ℕ × ℕ) → None ≡ Some f → ⊥
+no_pair f is = cc
+
 last : (i n : ℕ) → i < n + 1 → n ≤ i → i ≡ n
 last i n less more = omega (arith, less, more)
 
@@ -62,50 +64,49 @@ passed_over Before moments n (Some found) none so = (
       (λ other has. elim (not_none other (sym has ∙ none)) [ ]) i less other has,
 )
 
--- the slot has a moment, and what was found stays, or it is found
-pub one_more : (Before : ℕ → ℕ → Type 0) (stays : ℕ → ℕ → Bool)
-    → ((found since : ℕ) → stays found since ≡ true → Before found since)
-    → ((found since : ℕ) → stays found since ≡ false → (other : ℕ) → Before found other → Before since other)
-    → ((since : ℕ) → Before since since)
-    → (moments : List (Option ℕ)) (n since : ℕ) (found : Option (ℕ × ℕ))
-    → Has moments n since → IsFound Before moments n found → IsFound Before moments (n + 1) (found_with stays found n since)
-one_more Before stays kept taken same moments n since None has so = (
-  has,
+-- ---- the slot has a moment: the better one of what was found and of it is found
+
+-- what is found has its moment, as it is one of both
+has_best : (moments : List (Option ℕ)) (n since : ℕ) (found : Option (ℕ × ℕ)) (best : ℕ × ℕ)
+    → Has moments n since → ((f : ℕ × ℕ) → found ≡ Some f → Has moments f.0 f.1) → IsOneOf found (n, since) best → Has moments best.0 best.1
+has_best moments n since found best has before (inl is) = before best is
+has_best moments n since found best has before (inr is) = subst (λ (one : ℕ × ℕ). Has moments one.0 one.1) (sym is) has
+
+-- it comes before the one more, and so before whatever has that one's slot
+at_last : (Before : ℕ → ℕ → Type 0) (moments : List (Option ℕ)) (n since best : ℕ) → Has moments n since → Before best since
+    → (other : ℕ) → Has moments n other → Before best other
+at_last Before moments n since best has first other here = subst (Before best) (some_is since other (sym has ∙ here)) first
+
+found_is : (found f : ℕ × ℕ) → Some found ≡ Some f → found ≡ f
+found_is found f is = cc
+
+pub one_more : (Before : ℕ → ℕ → Type 0) → ((a b c : ℕ) → Before a b → Before b c → Before a c)
+    → (moments : List (Option ℕ)) (n since : ℕ) (found : Option (ℕ × ℕ)) (best : ℕ × ℕ)
+    → Has moments n since → IsOneOf found (n, since) best → Before best.1 since → IfSome found (λ f. Before best.1 f.1)
+    → IsFound Before moments n found → IsFound Before moments (n + 1) (Some best)
+one_more Before joined moments n since None best has is_one first before so = (
+  has_best moments n since None best has (λ f is. absurd (no_pair f is)) is_one,
   λ i other less here.
-      each (λ i. (other : ℕ) → Has moments i other → Before since other) n (λ i less other has. elim (so i other less has) [ ])
-      (λ other here. subst (Before since) (some_is since other (sym has ∙ here)) (same since)) i less other here,
+      each (λ i. (other : ℕ) → Has moments i other → Before best.1 other) n (λ i less other has. elim (so i other less has) [ ])
+      (at_last Before moments n since best.1 has first) i less other here,
 )
-one_more Before stays kept taken same moments n since (Some found) has so = go (stays found.1 since) refl where
-  go : (b : Bool) → stays found.1 since ≡ b → IsFound Before moments (n + 1) (if b then Some found else Some (n, since))
-  go true is = (
-    so.0,
-    λ i other less here.
-        each (λ i. (other : ℕ) → Has moments i other → Before found.1 other) n (λ i less other. so.1 i other less)
-        (λ other here. subst (Before found.1) (some_is since other (sym has ∙ here)) (kept found.1 since is)) i less other here,
-  )
-  go false is = (
-    has,
-    λ i other less here.
-        each (λ i. (other : ℕ) → Has moments i other → Before since other) n (λ i less other has. taken found.1 since is other (so.1 i other less has))
-        (λ other here. subst (Before since) (some_is since other (sym has ∙ here)) (same since)) i less other here,
-  )
+one_more Before joined moments n since (Some found) best has is_one first before so = (
+  has_best moments n since (Some found) best has (λ f is. subst (λ (f : ℕ × ℕ). Has moments f.0 f.1) (found_is found f is) so.0) is_one,
+  λ i other less here.
+      each (λ i. (other : ℕ) → Has moments i other → Before best.1 other) n
+      (λ i less other has. joined best.1 found.1 other before (so.1 i other less has))
+      (at_last Before moments n since best.1 has first) i less other here,
+)
 
--- ---- the least and the greatest
+pub one_earlier : (moments : List (Option ℕ)) (n since : ℕ) (found : Option (ℕ × ℕ)) (best : ℕ × ℕ)
+    → Has moments n since → IsEarlier found (n, since) best → IsFound Earlier moments n found → IsFound Earlier moments (n + 1) (Some best)
+one_earlier moments n since found best has is so =
+    one_more Earlier (λ a b c first then. omega (arith, first, then)) moments n since found best has is.is_one is.not_behind_one is.not_behind_found so
 
-pub earlier_stays : (found since : ℕ) → nat_le found since ≡ true → Earlier found since
-earlier_stays found since is = search rules
-
-pub earlier_goes : (found since : ℕ) → nat_le found since ≡ false → (other : ℕ) → Earlier found other → Earlier since other
-earlier_goes found since is other less = grind (arith, nat_tests, is, less)
-
-pub later_stays : (found since : ℕ) → nat_lt since found ≡ true → Later found since
-later_stays found since is = grind (arith, nat_tests, is)
-
-pub later_goes : (found since : ℕ) → nat_lt since found ≡ false → (other : ℕ) → Later found other → Later since other
-later_goes found since is other less = grind (arith, nat_tests, is, less)
-
-pub same : (n : ℕ) → n ≤ n
-same n = omega arith
+pub one_later : (moments : List (Option ℕ)) (n since : ℕ) (found : Option (ℕ × ℕ)) (best : ℕ × ℕ)
+    → Has moments n since → IsLater found (n, since) best → IsFound Later moments n found → IsFound Later moments (n + 1) (Some best)
+one_later moments n since found best has is so =
+    one_more Later (λ a b c first then. omega (arith, first, then)) moments n since found best has is.is_one is.not_before_one is.not_before_found so
 
 -- ---- at the end
 

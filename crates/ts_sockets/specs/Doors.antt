@@ -1,7 +1,7 @@
 -- When connections are accepted, and how long one may last where keys are wanted. Moments are
 -- milliseconds on one clock.
-use Rattle.std.specs.Prelude.{◌-◌, ◌/◌, ℕ, Bool, true, false, Option, Some, None, nat_le, nat_lt}
-use Rattle.std.specs.Prelude.{if◌then◌else◌}
+use Rattle.std.specs.Prelude.{◌-◌, ◌/◌, ◌||◌, ℕ, Bool, true, false, Option, Some, None}
+use Rattle.std.specs.Prelude.{List, length, nat_le, nat_lt, if◌then◌else◌}
 use Rattle.ts_access.specs.Entering.{has_begun, role_in}
 use Rattle.ts_access.specs.declared.fault.EntranceFault.{EntranceFault}
 use Rattle.ts_access.specs.declared.fault.EntranceFault.TheVariants.{Memory}
@@ -54,3 +54,12 @@ failure_of None = Failed
 -- so many readers leave less than an eighth of the places to others
 abbrev pub are_too_many : ℕ → ℕ → Bool
 are_too_many readers places = nat_lt (places - places / 8) readers
+
+-- the lock of a connection has octets ready to be written
+abbrev pub has_ready : Option Lock → Bool
+has_ready (Some lock) = nat_lt 0 (length lock.out)
+has_ready None = false
+
+-- something waits to be written: octets of its lock, or these, which wait to leave its slot
+abbrev pub waits : Option Lock → List ℕ → Bool
+waits lock leaving = has_ready lock || nat_lt 0 (length leaving)

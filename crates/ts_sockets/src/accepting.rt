@@ -5,7 +5,7 @@ ghost use Rattle.ts_links.specs.Calls.{IsQuiet};
 ghost use Rattle.ts_sockets.specs.Doors.{are_too_many, is_due};
 ghost use Rattle.ts_sockets.specs.Rooms.{IsDispensable, IsEarliest, IsLatest, is_reader};
 ghost use Rattle.ts_sockets.specs.Rooms.{reader_at, unknown_at};
-ghost use Rattle.ts_sockets.specs.inside.Found.{earlier, later};
+ghost use Rattle.ts_sockets.specs.inside.Found.{IsEarlier, IsLater};
 
 use crate::access::Access;
 use crate::counts::{Counts, Why};
@@ -121,7 +121,7 @@ fn longest_unknown(doors: &[Option<Door>]) -> Option<usize>
     let mut found: Option<(usize, u64)> = None;
     for slot in 0..doors.len() {
         if let Some(since) = unknown_since(&doors[slot]) {
-            found = earlier(found, slot, since);
+            found = Some(earlier(found, slot, since));
         }
     }
     match found {
@@ -131,12 +131,12 @@ fn longest_unknown(doors: &[Option<Door>]) -> Option<usize>
 }
 
 /// The one that is found, or this one where it is earlier.
-fn earlier(found: Option<(usize, u64)>, slot: usize, since: u64) -> Option<(usize, u64)>
-    ensures { result ≡ earlier found slot since }
+fn earlier(found: Option<(usize, u64)>, slot: usize, since: u64) -> (usize, u64)
+    ensures { IsEarlier found (slot, since) result }
 {
     match found {
-        Some((_, earliest)) if earliest <= since => found,
-        _ => Some((slot, since)),
+        Some((before, earliest)) if earliest <= since => (before, earliest),
+        _ => (slot, since),
     }
 }
 
@@ -189,7 +189,7 @@ fn latest_reader(doors: &[Option<Door>]) -> Option<usize>
     let mut found: Option<(usize, u64)> = None;
     for slot in 0..doors.len() {
         if let Some(since) = reader_since(&doors[slot]) {
-            found = later(found, slot, since);
+            found = Some(later(found, slot, since));
         }
     }
     match found {
@@ -199,12 +199,12 @@ fn latest_reader(doors: &[Option<Door>]) -> Option<usize>
 }
 
 /// The one that is found, or this one where it is not earlier.
-fn later(found: Option<(usize, u64)>, slot: usize, since: u64) -> Option<(usize, u64)>
-    ensures { result ≡ later found slot since }
+fn later(found: Option<(usize, u64)>, slot: usize, since: u64) -> (usize, u64)
+    ensures { IsLater found (slot, since) result }
 {
     match found {
-        Some((_, latest)) if latest > since => found,
-        _ => Some((slot, since)),
+        Some((before, latest)) if latest > since => (before, latest),
+        _ => (slot, since),
     }
 }
 

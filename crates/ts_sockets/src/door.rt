@@ -2,7 +2,8 @@
 
 ghost use Rattle.std.specs.Prelude.{◌≡◌};
 ghost use Rattle.ts_links.specs.Calls.{IsQuiet};
-ghost use Rattle.ts_sockets.specs.Doors.{failure_of, is_over_at};
+ghost use Rattle.ts_links.specs.Table.{waits_at};
+ghost use Rattle.ts_sockets.specs.Doors.{failure_of, is_over_at, waits};
 
 use crate::counts::Why;
 use crate::lock::{HandOver, Lock};
@@ -65,7 +66,9 @@ impl Door {
     }
 
     /// Whether something waits to be written.
-    pub fn waits(&self, table: &Connections, slot: usize) -> bool {
+    pub fn waits(&self, table: &Connections, slot: usize) -> bool
+        ensures { result ≡ waits self.now.lock (waits_at table.now.links.items slot) }
+    {
         let is_ready = match &self.lock {
             Some(lock) => lock.waits(),
             None => false,

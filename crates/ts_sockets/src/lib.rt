@@ -19,8 +19,9 @@
 //!   over HTTP (`ts_loop`). Its condition is that what was answered is kept, and so it is one of
 //!   each call that writes.
 //! - [`Counts`]: what was done, for whoever watches: each call counts by `specs/Counts`.
-//! - [`Accepts::is_due`], [`Door::is_over`]: when connections are accepted again, and when one is
-//!   over where keys are wanted (`specs/Doors`).
+//! - [`Accepts::is_due`], [`Door::is_over`], [`Door::waits`]: when connections are accepted again,
+//!   when one is over where keys are wanted, and whether something waits to be written
+//!   (`specs/Doors`).
 //!
 //! # Not promised
 //!

@@ -1,14 +1,23 @@
--- What private clauses see of a search among moments: the slot and the moment that are found.
-use Rattle.std.specs.Prelude.{ℕ, Bool, Option, None, Some, nat_le, nat_lt, if◌then◌else◌}
+-- What private clauses see of a search for one connection: of the one that was found so far and one
+-- more, which is found now. Each is a slot and the moment when its connection was accepted.
+use Rattle.std.specs.Prelude.{◌≡◌, ◌⊎◌, ◌≤◌, ℕ, IfSome, Option, Some}
 
--- what is found stays, or this slot has the moment that is looked for
-abbrev pub found_with : (ℕ → ℕ → Bool) → Option (ℕ × ℕ) → ℕ → ℕ → Option (ℕ × ℕ)
-found_with stays None slot since = Some (slot, since)
-found_with stays (Some found) slot since =
-    if stays found.1 since then Some found else Some (slot, since)
+-- it is one of the two
+abbrev pub IsOneOf : Option (ℕ × ℕ) → ℕ × ℕ → ℕ × ℕ → Type 0
+IsOneOf found one best = (found ≡ Some best) ⊎ (best ≡ one)
 
-abbrev pub earlier : Option (ℕ × ℕ) → ℕ → ℕ → Option (ℕ × ℕ)
-earlier found slot since = found_with (λ earliest since. nat_le earliest since) found slot since
+-- It is the one that has waited longest: neither was accepted before it. Of two that were
+-- accepted at one moment it is the one that was found.
+pub record IsEarlier (found : Option (ℕ × ℕ)) (one best : ℕ × ℕ) : Type 0 where
+  pub is_one : IsOneOf found one best
+  pub not_behind_one : best.1 ≤ one.1
+  pub not_behind_found : IfSome found (λ f. best.1 ≤ f.1)
+  pub at_one_moment : IfSome found (λ f. f.1 ≡ one.1 → best ≡ f)
 
-abbrev pub later : Option (ℕ × ℕ) → ℕ → ℕ → Option (ℕ × ℕ)
-later found slot since = found_with (λ latest since. nat_lt since latest) found slot since
+-- It is the one that came last: neither was accepted after it. Of two that were accepted at
+-- one moment it is not the one that was found.
+pub record IsLater (found : Option (ℕ × ℕ)) (one best : ℕ × ℕ) : Type 0 where
+  pub is_one : IsOneOf found one best
+  pub not_before_one : one.1 ≤ best.1
+  pub not_before_found : IfSome found (λ f. f.1 ≤ best.1)
+  pub at_one_moment : IfSome found (λ f. f.1 ≡ one.1 → best ≡ one)

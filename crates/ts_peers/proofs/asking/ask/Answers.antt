@@ -5,5 +5,5 @@ use Rattle.ts_peers.proofs.asking.ask.Goals as goal
 pub returns-clause-reached : goal.returns-clause-reached
 returns-clause-reached g c = then_quiet g.S.Service.turn g.S.Service.keeps _ _ _ _ _
     (reached_then g.S.Service.turn g.S.Service.keeps _ _ _ _ _ _
-    (reached_quiet g.S.Service.turn g.S.Service.keeps _ _ _ c.«open».ensures)
-    c.ask_at-answer.ensures.reached) c.close-closed.ensures
+    (reached_quiet g.S.Service.turn g.S.Service.keeps _ _ _ c.«open».ensures.quiet)
+    c.ask_at-answer.ensures.reached) c.close-closed.ensures.quiet

@@ -4,11 +4,11 @@ use Rattle.ts_peers.proofs.asking.ask_at.Goals as goal
 
 pub returns-clause-reached : goal.returns-clause-reached
 returns-clause-reached g c = reached_then g.S.Service.turn g.S.Service.keeps _ _ _ _ _ _
-    (reached_quiet g.S.Service.turn g.S.Service.keeps _ _ _ c.arrive-came.ensures)
+    (reached_quiet g.S.Service.turn g.S.Service.keeps _ _ _ c.arrive-came.ensures.quiet)
     c.take_some-taken.ensures.reached
 
 pub returns-then-not-came-clause-reached : goal.returns-then-not-came-clause-reached
 returns-then-not-came-clause-reached g c =
     reached_then g.S.Service.turn g.S.Service.keeps _ _ _ _ _ _
-    (reached_quiet g.S.Service.turn g.S.Service.keeps _ _ _ c.arrive-came.ensures)
+    (reached_quiet g.S.Service.turn g.S.Service.keeps _ _ _ c.arrive-came.ensures.quiet)
     c.take_some-taken.ensures.reached

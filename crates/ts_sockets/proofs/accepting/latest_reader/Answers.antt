@@ -1,8 +1,7 @@
 -- One slot more, and all of them.
-use Rattle.std.proofs.Common.{◌∙◌, Some, None, map, subst, ◌+◌, sym}
-use Rattle.std.specs.Prelude.{nat_lt}
+use Rattle.std.proofs.Common.{Some, None, map, subst, ◌+◌, sym}
 use Rattle.ts_sockets.specs.Rooms.{reader_at}
-use Rattle.ts_sockets.proofs.Finding.{Later, IsFound, all_found, moment_at, moments_within, none_found, one_more, passed_over, same, later_goes, later_stays}
+use Rattle.ts_sockets.proofs.Finding.{Later, IsFound, all_found, moment_at, moments_within, none_found, one_later, passed_over}
 use Rattle.ts_sockets.proofs.accepting.latest_reader.Goals as goal
 use Rattle.ts_sockets.proofs.accepting.latest_reader.Goals.{in-Some, in_default}
 
@@ -15,8 +14,8 @@ loop-slot-preserved c =
     elim c.match-reader_since.branch [
       | in-Some w ↦
           let has = moment_at reader_at c.args.doors.now slot place (Some w.in-Some.since) c.loop-slot-test.true c.index-doors-slot.is w.in-Some.ensures in
-          subst (IsFound Later moments (slot + 1)) (sym (w.found-is ∙ w.later-found.ensures))
-          (one_more Later (λ found since. nat_lt since found) later_stays later_goes same moments slot w.in-Some.since found has c.loop-slot.invariant)
+          subst (IsFound Later moments (slot + 1)) (sym w.found-is)
+          (one_later moments slot w.in-Some.since found w.later.result has w.later.ensures c.loop-slot.invariant)
       | in_default w ↦
           let none = moment_at reader_at c.args.doors.now slot place None c.loop-slot-test.true c.index-doors-slot.is w.in_default.ensures in
           subst (IsFound Later moments (slot + 1)) (sym w.found-is) (passed_over Later moments slot found none c.loop-slot.invariant)

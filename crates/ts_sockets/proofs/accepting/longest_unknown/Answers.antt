@@ -1,8 +1,7 @@
 -- One slot more, and all of them.
-use Rattle.std.proofs.Common.{◌∙◌, Some, None, map, subst, ◌+◌, sym}
-use Rattle.std.specs.Prelude.{nat_le}
+use Rattle.std.proofs.Common.{Some, None, map, subst, ◌+◌, sym}
 use Rattle.ts_sockets.specs.Rooms.{unknown_at}
-use Rattle.ts_sockets.proofs.Finding.{Earlier, IsFound, all_found, moment_at, moments_within, none_found, one_more, passed_over, same, earlier_goes, earlier_stays}
+use Rattle.ts_sockets.proofs.Finding.{Earlier, IsFound, all_found, moment_at, moments_within, none_found, one_earlier, passed_over}
 use Rattle.ts_sockets.proofs.accepting.longest_unknown.Goals as goal
 use Rattle.ts_sockets.proofs.accepting.longest_unknown.Goals.{in-Some, in_default}
 
@@ -15,8 +14,8 @@ loop-slot-preserved c =
     elim c.match-unknown_since.branch [
       | in-Some w ↦
           let has = moment_at unknown_at c.args.doors.now slot place (Some w.in-Some.since) c.loop-slot-test.true c.index-doors-slot.is w.in-Some.ensures in
-          subst (IsFound Earlier moments (slot + 1)) (sym (w.found-is ∙ w.earlier-found.ensures))
-          (one_more Earlier (λ found since. nat_le found since) earlier_stays earlier_goes same moments slot w.in-Some.since found has c.loop-slot.invariant)
+          subst (IsFound Earlier moments (slot + 1)) (sym w.found-is)
+          (one_earlier moments slot w.in-Some.since found w.earlier.result has w.earlier.ensures c.loop-slot.invariant)
       | in_default w ↦
           let none = moment_at unknown_at c.args.doors.now slot place None c.loop-slot-test.true c.index-doors-slot.is w.in_default.ensures in
           subst (IsFound Earlier moments (slot + 1)) (sym w.found-is) (passed_over Earlier moments slot found none c.loop-slot.invariant)
