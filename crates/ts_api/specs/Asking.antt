@@ -11,7 +11,7 @@ use Rattle.ts_form.specs.Said.{IsLongText, IsSaid}
 use Rattle.ts_form.specs.declared.fault.FormFault.{FormFault}
 use Rattle.ts_form.specs.declared.fault.FormFault.TheVariants as faults
 use Rattle.ts_form.specs.declared.wanted.WantedFields.{WantedFields}
-use Rattle.ts_question.specs.Question.{question_encoding, is_within}
+use Rattle.ts_question.specs.Question.{StoreQuestion, question_encoding, is_within}
 use Rattle.ts_api.specs.Request.{query_of}
 use Rattle.ts_api.specs.declared.asking.AskedQuestion.{AskedQuestion}
 use Rattle.ts_api.specs.declared.asking.NoQuestion.{NoQuestion}
@@ -88,15 +88,18 @@ RequestRefused target body fault = IsMany (pairs_in target) fault
 
 -- ---- the question
 
--- the question that fields ask, the SHA-256 of its octets, and whether its answer is for ever:
--- both the moment and the position are given
-pub record IsQuestionOf (wanted : WantedFields) (now : ℤ) (asked : AskedQuestion) : Type 0 where
-  pub question_is : asked.question ≡ asked_in wanted now
-  pub id_is : asked.id ≡ sha256 (question_encoding asked.question)
-  pub pinned_is : asked.is_pinned ≡ is_some wanted.at && is_some wanted.k
+-- a question, the SHA-256 of its octets, and whether its answer is for ever
+abbrev pub asked_as : StoreQuestion → Bool → AskedQuestion
+asked_as question is_pinned = record {
+  question = question;
+  id = sha256 (question_encoding question);
+  is_pinned = is_pinned;
+}
 
+-- the question that fields ask: its answer is for ever where both moment and position are given
 abbrev pub IsAsked : WantedFields → ℤ → Result AskedQuestion NoQuestion → Type 0
-IsAsked wanted now (Ok asked) = IsQuestionOf wanted now asked
+IsAsked wanted now (Ok asked) =
+    asked ≡ asked_as (asked_in wanted now) (is_some wanted.at && is_some wanted.k)
 IsAsked wanted now (Err Limits) = is_within (asked_in wanted now) ≡ false
 IsAsked wanted now (Err other) = ⊥
 

@@ -102,7 +102,7 @@ abbrev pub shown_by : Result (List ℕ) FromHexError → Bearer
 shown_by (Ok secret) = bearers.Secret secret
 shown_by (Err e) = bearers.Wrong
 
--- `Bearer` in whatever case, a space, and 64 hexadecimal digits (RFC 6750 2.1)
+-- `Bearer` in whatever case, one space (RFC 6750 2.1 allows more), and 64 hexadecimal digits
 abbrev pub bearer_of : List ℕ → Bearer
 bearer_of value =
     if nat_le 7 (length value) && is_word (codes "bearer ") (take 7 value)

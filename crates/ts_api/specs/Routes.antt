@@ -31,19 +31,21 @@ route_of path =
     else (if bytes_eq path (codes "/verify") then routes.Form
     else (if bytes_eq path (codes "/v1/verify") then routes.Verify
     else (if bytes_eq path (codes "/v1/check") then routes.Check
-    else program_route path)))))
+    else (if bytes_eq path (codes "/v1/explain") then routes.Explain
+    else program_route path))))))
 
 -- all routes, in the order in which they are counted
 abbrev pub all_routes : List Route
 all_routes = routes.Home ∷ routes.Style ∷ routes.Script ∷ routes.Form ∷ routes.Verify ∷ routes.Check
-    ∷ routes.Store ∷ routes.Log ∷ routes.Commands ∷ routes.Status ∷ routes.Health ∷ routes.Metrics
-    ∷ routes.None ∷ []
+    ∷ routes.Explain ∷ routes.Store ∷ routes.Log ∷ routes.Commands ∷ routes.Status
+    ∷ routes.Health ∷ routes.Metrics ∷ routes.None ∷ []
 
 -- forms and questions are posted, a command is posted and asked for, all else is got
 abbrev pub methods_of : Route → Methods
 methods_of routes.Form = Post
 methods_of routes.Verify = Post
 methods_of routes.Check = Post
+methods_of routes.Explain = Post
 methods_of routes.Commands = Both
 methods_of other = Get
 

@@ -7,7 +7,7 @@ ghost use Rattle.ts_question.specs.Question.{question_encoding};
 ghost use Rattle.ts_api.specs.Asking.{BodyRefused, IsAsked, IsAskedBy, IsAskedFrom};
 ghost use Rattle.ts_api.specs.Asking.{PairsRefused, RequestRefused, Says, SaysBody};
 ghost use Rattle.ts_api.specs.Asking.{SaysJson};
-ghost use Rattle.ts_api.specs.Asking.{SaysNoJson, SaysPairs, is_json};
+ghost use Rattle.ts_api.specs.Asking.{SaysNoJson, SaysPairs, asked_as, is_json};
 
 use crate::request::query_of;
 use sha2::{Digest, Sha256};
@@ -127,6 +127,28 @@ fn id_of(alloc: Global, question: &Question) -> Result<[u8; 32], AllocError>
     Ok(hasher.finalize())
 }
 
+impl AskedQuestion {
+    /// A question, with what is known of it.
+    ///
+    /// # Errors
+    ///
+    /// Out of memory.
+    pub fn of(
+        alloc: Global,
+        question: Question,
+        is_pinned: bool,
+    ) -> Result<AskedQuestion, AllocError>
+        ensures { IfOk result (λ asked. asked ≡ asked_as question is_pinned) }
+    {
+        let id = id_of(alloc, &question)?;
+        Ok(AskedQuestion {
+            question,
+            id,
+            is_pinned,
+        })
+    }
+}
+
 /// The question that fields ask, at this moment if they name none.
 pub fn asked_of(
     alloc: Global,
@@ -139,12 +161,8 @@ pub fn asked_of(
     let Ok(question) = question_of(alloc, wanted, now) else {
         return Ok(Err(NoQuestion::Limits));
     };
-    let id = id_of(alloc, &question)?;
-    Ok(Ok(AskedQuestion {
-        question,
-        id,
-        is_pinned,
-    }))
+    let asked = AskedQuestion::of(alloc, question, is_pinned)?;
+    Ok(Ok(asked))
 }
 
 /// The question of a request to `/v1/verify`, at this moment if it names none.

@@ -20,6 +20,9 @@ pub enum Route {
     Verify,
     /// `/v1/check`: a question, whose status says the verdict.
     Check,
+    /// `/v1/explain`: a question, and where a search finds nothing, one about the chain as it was
+    /// sent.
+    Explain,
     /// `/v1/store`: what the store holds.
     Store,
     /// `/v1/log`: the commands that it took.
@@ -120,6 +123,9 @@ pub(crate) fn route_of(path: &[u8]) -> Route
     if is_word(path, "/v1/check") {
         return Route::Check;
     }
+    if is_word(path, "/v1/explain") {
+        return Route::Explain;
+    }
     program_route(path)
 }
 
@@ -142,7 +148,7 @@ impl Route {
         ensures { result ≡ methods_of self }
     {
         match self {
-            Route::Form | Route::Verify | Route::Check => Methods::Post,
+            Route::Form | Route::Verify | Route::Check | Route::Explain => Methods::Post,
             Route::Commands => Methods::Both,
             _ => Methods::Get,
         }
@@ -159,6 +165,7 @@ impl Route {
             Route::Form => "/verify",
             Route::Verify => "/v1/verify",
             Route::Check => "/v1/check",
+            Route::Explain => "/v1/explain",
             Route::Store => "/v1/store",
             Route::Log => "/v1/log",
             Route::Commands => "/v1/commands",
@@ -171,7 +178,7 @@ impl Route {
 
     /// The place among all routes.
     pub fn place(self) -> usize
-        ensures within { result < 13 }
+        ensures within { result < 14 }
         ensures here { slice_get all_routes result ≡ Some self }
     {
         match self {
@@ -181,18 +188,19 @@ impl Route {
             Route::Form => 3,
             Route::Verify => 4,
             Route::Check => 5,
-            Route::Store => 6,
-            Route::Log => 7,
-            Route::Commands => 8,
-            Route::Status => 9,
-            Route::Health => 10,
-            Route::Metrics => 11,
-            Route::None => 12,
+            Route::Explain => 6,
+            Route::Store => 7,
+            Route::Log => 8,
+            Route::Commands => 9,
+            Route::Status => 10,
+            Route::Health => 11,
+            Route::Metrics => 12,
+            Route::None => 13,
         }
     }
 
     /// All routes, in the order of their places.
-    pub fn all() -> [Route; 13]
+    pub fn all() -> [Route; 14]
         ensures { result ≡ all_routes }
     {
         [
@@ -202,6 +210,7 @@ impl Route {
             Route::Form,
             Route::Verify,
             Route::Check,
+            Route::Explain,
             Route::Store,
             Route::Log,
             Route::Commands,

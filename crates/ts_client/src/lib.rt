@@ -15,6 +15,7 @@
 //! That a task does what its words ask for: rows of `tests/` and `examples/real/day` show it.
 #![tactic(auto)]
 
+mod explaining;
 mod keyed;
 mod listing;
 mod pausing;

@@ -2,6 +2,7 @@
 
 ghost use Rattle.std.specs.Prelude.{All};
 
+use crate::explaining::explain_answer;
 use crate::keyed::ReachedNode;
 use crate::waiting::submit_and_wait;
 use std::alloc::Global;
@@ -16,9 +17,8 @@ use ts_exchange::{
     Ending, Saying, answer_in, answer_to_question, ask_line, ending_by, request_octets,
     submit_saying,
 };
-use ts_files::{TaskFault, key_in, put, read_file, say, say_other};
+use ts_files::{TaskFault, key_in, read_file, say, say_other};
 use ts_question::{Answer, Question};
-use ts_render::explanation;
 use ts_serve::{Peer, TcpPeer, carry};
 use ts_show::Kind;
 use ts_wire::{Frame, FrameFault};
@@ -207,19 +207,6 @@ pub fn submit_file(
     Ok(said.ended)
 }
 
-/// Prints what the answer to a question means, whose octets these are.
-fn explain_answer(
-    rt: &impl Print,
-    alloc: Global,
-    octets: &[u8],
-    answer: &Answer,
-) -> Result<(), TaskFault> {
-    match Question::read(alloc, octets)? {
-        Some(question) => put(rt, &explanation(alloc, &question, answer.reply())?),
-        None => Err(TaskFault::Field),
-    }
-}
-
 /// Asks the server at an address the question that a file holds, and prints the answer. It ends
 /// well, unless a valid chain is checked for and none is answered.
 ///
@@ -238,11 +225,13 @@ pub fn ask_file(
     let Some(question) = Question::read(alloc, &octets)? else {
         return Err(no_such(rt, alloc, file, Kind::Question, &octets));
     };
-    let answer = answer_from(alloc, &mut server_at(rt, alloc, reach)?, question);
+    let mut server = server_at(rt, alloc, reach)?;
+    let answer = answer_from(alloc, &mut server, question);
     let answer = tell(rt, reach, answer)?;
     say(rt, ask_line(alloc, &answer)?.as_str())?;
     if explain {
-        explain_answer(rt, alloc, &octets, &answer)?;
+        let explained = explain_answer(rt, alloc, &mut server, &octets, &answer);
+        tell(rt, reach, explained)?;
     }
     Ok(ending_by(check, answer.reply()))
 }

@@ -4,3 +4,4 @@ mod Asked
 mod Steps
 mod Begun
 mod Wanting
+mod Rows

@@ -1,5 +1,5 @@
 -- Steps of a connection, one after another.
-use Rattle.std.proofs.Common.{◌≡◌, ◌≤◌, ◌+◌, ◌∙◌, sym, ap, subst, refl, arith, length, length-append, ℕ, Bool, true, false}
+use Rattle.std.proofs.Common.{◌≡◌, ◌≤◌, ◌+◌, ◌∙◌, sym, ap, subst, refl, arith, length, ℕ, Bool, true, false}
 use Rattle.std.proofs.Common.{true≢false, List, [], ◌∷◌, ◌++◌, Option, Some, None, ◌⊎◌, inl, inr, Result, Ok, Err, IfOk}
 use Rattle.std.proofs.Common.{if◌then◌else◌}
 use Rattle.ts_http.specs.Moves.{AnswersAt, HasRead, ReadFrom, ended_at, is_ended, manner_at, request_at, request_in, wrong_at, wrong_in}

@@ -28,6 +28,11 @@ State = Connection × Option Asking
 abbrev pub state_of : Face → State
 state_of face = (face.connection, face.asking)
 
+-- since when a connection does what it does: as before, or from now on
+abbrev pub IsTimed : ℕ → Face → Face → Type 0
+IsTimed now a b = (b.connection.times ≡ a.connection.times)
+    ⊎ (b.connection.times.since ≡ now)
+
 -- a response is written behind the others, to what waits for one
 abbrev pub Responds : Connection → Connection → Response → Type 0
 Responds a b r = HasAnswered a b r.status (phrase_of r.status) (headers_of r) r.body.items

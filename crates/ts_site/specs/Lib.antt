@@ -5,6 +5,7 @@ pub mod Verdicts
 pub mod Listings
 pub mod Statuses
 pub mod Requests
+pub mod Explaining
 pub mod Faces
 pub mod Account
 pub mod inside

@@ -10,6 +10,7 @@ use Rattle.ts_api.specs.Request.{bearer_in, route_in}
 use Rattle.ts_api.specs.Response.{IsLine}
 use Rattle.ts_api.specs.Routes.{method_of, methods_of, takes}
 use Rattle.ts_api.specs.declared.response.Content.TheVariants.{Text}
+use Rattle.ts_api.specs.declared.response.Keeps.TheVariants.{Never}
 use Rattle.ts_api.specs.declared.response.Response.{Response}
 use Rattle.ts_api.specs.declared.route.Method.{Method}
 use Rattle.ts_api.specs.declared.route.Method.TheVariants.{Post}
@@ -17,12 +18,13 @@ use Rattle.ts_api.specs.declared.route.Route.{Route}
 use Rattle.ts_api.specs.declared.route.Route.TheVariants as routes
 use Rattle.ts_api.specs.declared.scene.Scene.{Scene}
 use Rattle.ts_site.specs.Commanding.{BeginsCommand}
+use Rattle.ts_site.specs.Explaining.{BeginsForm, EndsForm, EndsVerdict, GoesOnRows, TellsEnd}
 use Rattle.ts_site.specs.Frames.{prefix_in, reply_in}
 use Rattle.ts_site.specs.Listings.{BeginsRows, TellsRows}
 use Rattle.ts_site.specs.Statuses.{BeginsOutcome, EndsPrefix, TellsCommand, TellsHealth}
 use Rattle.ts_site.specs.Statuses.{TellsStatus}
 use Rattle.ts_site.specs.Steps.{Answers, AsksNode}
-use Rattle.ts_site.specs.Verdicts.{BeginsVerdict, TellsVerdict}
+use Rattle.ts_site.specs.Verdicts.{BeginsVerdict}
 use Rattle.ts_site.specs.declared.next.Next.{Next}
 use Rattle.ts_site.specs.declared.next.Next.TheVariants.{Tell, Ask}
 use Rattle.ts_site.specs.declared.next.Waits.{Waits}
@@ -34,9 +36,6 @@ use Rattle.ts_site.specs.declared.next.Waits.TheVariants as waits
 abbrev pub is_shown : Waits → Bool
 is_shown (waits.Home asked) = true
 is_shown (waits.HomeRows asked prefix) = true
-is_shown (waits.Form asked pairs) = true
-is_shown (waits.Anchors explaining) = true
-is_shown (waits.Explained asked pairs) = true
 is_shown waits.Metrics = true
 is_shown (waits.Gauge gauging) = true
 is_shown other = false
@@ -59,6 +58,7 @@ pub record IsNotAllowed (route : Route) (r : Response) : Type 0 where
   pub content_is : r.content ≡ Text
   pub allow_is : r.allow ≡ Some (methods_of route)
   pub body_is : r.body.items ≡ codes "this path takes another method" ++ 10 ∷ []
+  pub keeps_is : r.keeps ≡ Never
 
 -- a command that is sent, or asked for
 abbrev pub BeginsCommands : Method → Scene → Request → Next → Type 0
@@ -70,6 +70,9 @@ abbrev pub BeginsAt : Route → Scene → Request → Next → Type 0
 BeginsAt routes.Verify s r next =
     BeginsVerdict routes.Verify r.target.items r.body.items s.now next
 BeginsAt routes.Check s r next = BeginsVerdict routes.Check r.target.items r.body.items s.now next
+BeginsAt routes.Explain s r next =
+    BeginsVerdict routes.Explain r.target.items r.body.items s.now next
+BeginsAt routes.Form s r next = BeginsForm r.body.items s.now next
 BeginsAt routes.Store s r next = BeginsRows false r.target.items next
 BeginsAt routes.Log s r next = BeginsRows true r.target.items next
 BeginsAt routes.Commands s r next = BeginsCommands (method_of r.method.items) s r next
@@ -92,8 +95,10 @@ Begins s r next = BeginsBy (wants_other (route_in r.target.items) (method_of r.m
 
 -- what the node's answer comes to
 abbrev pub GoesOn : Waits → Frame → Next → Type 0
-GoesOn (waits.Verdict asked route) frame next =
-    Answers (TellsVerdict asked route (reply_in frame)) next
+GoesOn (waits.Verdict asked route) frame next = EndsVerdict asked route (reply_in frame) next
+GoesOn (waits.Form asked pairs) frame next = EndsForm asked pairs (reply_in frame) next
+GoesOn (waits.Anchors explaining) frame next = GoesOnRows explaining (reply_in frame) next
+GoesOn (waits.Chain asked form) frame next = TellsEnd asked (reply_in frame) form next
 GoesOn (waits.Rows asked) frame next = Answers (TellsRows asked (reply_in frame)) next
 GoesOn waits.Health frame next = Answers (TellsHealth (prefix_in frame)) next
 GoesOn waits.Prefix frame next = EndsPrefix (prefix_in frame) next

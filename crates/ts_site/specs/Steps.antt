@@ -18,6 +18,11 @@ abbrev pub Answers : (Response → Type 0) → Next → Type 0
 Answers Is (Tell response) = Is response
 Answers Is (Ask pending octets) = ⊥
 
+-- something is answered, whatever it is
+abbrev pub IsTold : Next → Type 0
+IsTold (Tell response) = Unit {0}
+IsTold (Ask pending octets) = ⊥
+
 -- the node answered with a fault, or not what it was asked
 abbrev pub failed : List ℕ
 failed = codes "the node failed"

@@ -68,7 +68,7 @@ pub struct Turns {
 /// How often each route answered, by the first digit of the status: 2, 4 or 5.
 #[derive(Clone, Copy, Debug, PartialEq, Eq)]
 pub(crate) struct Tally {
-    counts: [[u64; 3]; 13],
+    counts: [[u64; 3]; 14],
     verdicts: [u64; 3],
 }
 
@@ -167,7 +167,7 @@ impl Tally {
     /// Nothing was answered.
     fn new() -> Tally {
         Tally {
-            counts: [[0; 3]; 13],
+            counts: [[0; 3]; 14],
             verdicts: [0; 3],
         }
     }

@@ -1,66 +1,93 @@
-//! The page's form: a verdict, and why a chain is not valid that no search found valid.
+//! Why no chain is valid: where a search finds none, the question about the chain that was sent.
 
-ghost use Rattle.std.specs.Prelude.{IfOk};
-ghost use Rattle.ts_site.specs.Requests.{Shows};
+ghost use Rattle.std.specs.Prelude.{◌≡◌, ◌↔◌, IfOk, IsTrue, None, Some, map};
+ghost use Rattle.ts_site.specs.Explaining.{AsksChain, AsksForRows, BeginsAnew, Concludes};
+ghost use Rattle.ts_site.specs.Explaining.{EndsAnchors, EndsFirst, GoesOnRows, IsPassed};
+ghost use Rattle.ts_site.specs.Explaining.{TakesRows};
+ghost use Rattle.ts_site.specs.Explaining.{TellsEnd, chain_asked, nothing_in};
+ghost use Rattle.ts_site.specs.Frames.{reply_in};
 
-use crate::board::Board;
 use crate::frames::reply_in;
 use crate::listing::rows_question;
 use crate::next::{Next, Waits, ask};
-use crate::refusing::{no_question_page, problem};
-use crate::verifying::time_kept;
+use crate::refusing::{node_failed, problem};
+use crate::verifying::{time_kept, verdict};
 use std::alloc::{AllocError, Global};
-use ts_api::{
-    AskedQuestion, Content, NoQuestion, Response, asked_of, question_frame, question_from,
-    wanted_in,
-};
-use ts_cert::Cert;
-use ts_form::{FormFault, Pair, form_pairs};
-use ts_http::Request;
+use ts_api::{AskedQuestion, Content, Response, Route, question_frame};
+use ts_form::Pair;
 use ts_page::verdict_page;
-use ts_question::{AnchorRow, Answer, MAX_CHAIN, Reply, Target};
+use ts_question::{Answer, Question, Reply};
 use ts_render::{answer_fields, chain_fields};
+use ts_sent::{AnchorAbove, chain_under, is_anchor, nearest, sent_in};
 use ts_wire::Frame;
 
-/// What stands below a verdict on the chain as it was given.
-const EXPLAINED: &str =
-    "No chain to the first certificate is valid. This is what the chain comes to \
-    as it stands, under the anchor of the store by the name of its last issuer.";
+/// What stands below a verdict on the chain as it was sent.
+const AS_SENT: &str =
+    "No chain to the first certificate is valid. This is what the certificates come to as they \
+    were sent, up to the first whose issuer is a trust anchor of the store.";
 
-/// A chain that no search found valid, while its anchor is looked for.
+/// What stands below the answer of a search, where there is no question about the chain.
+const NO_ANCHOR: &str =
+    "No trust anchor of the store is the issuer of one of the first sixteen certificates.";
+
+/// A search that found nothing, while the anchor above the chain that was sent is looked for.
 #[derive(Drop)]
 pub(crate) struct Explaining {
     pub asked: AskedQuestion,
+    /// What the search answered.
     pub answer: Answer,
-    pub pairs: Vec<Pair>,
+    /// The fields of the page's form; none where a program asks.
+    pub form: Option<Vec<Pair>>,
     /// How many rows of the store were looked at.
     pub from: u32,
+    /// The nearest anchor among these.
+    pub found: Option<AnchorAbove>,
 }
 
-/// Asks the question of a form.
-fn ask_form(alloc: Global, asked: AskedQuestion, pairs: Vec<Pair>) -> Result<Next, AllocError>
-    ensures { IfOk result Shows }
+/// The answer of a search that found nothing, once more. `None` for any other answer.
+fn nothing_in(answer: &Answer) -> Option<Answer>
+    ensures { result ≡ nothing_in answer.now }
 {
-    let frame = question_frame(alloc, &asked.question)?;
-    Ok(ask(Waits::Form(asked, pairs), frame))
-}
-
-/// Begins a request of the page's form.
-pub(crate) fn begin_form(alloc: Global, request: &Request, now: i64) -> Result<Next, AllocError>
-    ensures { IfOk result Shows }
-{
-    let pairs = match form_pairs(alloc, &request.body) {
-        Ok(pairs) => pairs,
-        Err(FormFault::Memory) => return Err(AllocError),
-        Err(fault) => {
-            let why = NoQuestion::Form(fault);
-            return Ok(Next::Tell(no_question_page(alloc, why, &[])?));
-        }
+    let reply = match answer.reply() {
+        Reply::NoPath => Reply::NoPath,
+        Reply::SearchLimit => Reply::SearchLimit,
+        _ => return None,
     };
-    match question_from(alloc, &pairs, now)? {
-        Ok(asked) => ask_form(alloc, asked, pairs),
-        Err(why) => Ok(Next::Tell(no_question_page(alloc, why, &pairs)?)),
+    match Answer::new(answer.k(), reply) {
+        Ok(answer) => Some(answer),
+        Err(_) => unreachable!(),
     }
+}
+
+/// Asks for the rows of the store behind those that were looked at, as it was when the search found
+/// nothing.
+fn ask_rows(alloc: Global, explaining: Explaining) -> Result<Next, AllocError>
+    ensures { IfOk result (AsksForRows explaining) }
+{
+    let question = rows_question(alloc, false, Some(explaining.answer.k()), explaining.from)?;
+    let frame = question_frame(alloc, &question)?;
+    Ok(ask(Waits::Anchors(explaining), frame))
+}
+
+/// Begins to look for the anchor above the chain that was sent, where a search found nothing.
+fn begin_explaining(
+    alloc: Global,
+    asked: AskedQuestion,
+    answer: Answer,
+    form: Option<Vec<Pair>>,
+) -> Result<Next, AllocError>
+    ensures { IfOk result (BeginsAnew asked answer form) }
+{
+    ask_rows(
+        alloc,
+        Explaining {
+            asked,
+            answer,
+            form,
+            from: 0,
+            found: None,
+        },
+    )
 }
 
 /// The page with a verdict.
@@ -79,163 +106,152 @@ fn page(
     Ok(response)
 }
 
-/// The last certificate of a search that is short enough for a chain.
-fn last_of(asked: &AskedQuestion) -> Option<&[u8]> {
-    let Target::Search { certificates } = asked.question.target() else {
-        return None;
-    };
-    let certificates = certificates.as_slice();
-    if certificates.len() > MAX_CHAIN {
-        return None;
-    }
-    let last = certificates.last()?;
-    Some(last.as_slice())
-}
-
-/// Asks for rows of the store as it was when the search found nothing.
-fn ask_rows(alloc: Global, explaining: Explaining) -> Result<Next, AllocError>
-    ensures { IfOk result Shows }
-{
-    let question = rows_question(alloc, false, Some(explaining.answer.k()), explaining.from)?;
-    let frame = question_frame(alloc, &question)?;
-    Ok(ask(Waits::Anchors(explaining), frame))
-}
-
-/// The answer to a form's question as it came.
-fn take_answer(
+/// Tells an answer: to a program, or on the page, with a note.
+fn tell(
     alloc: Global,
-    asked: AskedQuestion,
-    pairs: Vec<Pair>,
+    asked: &AskedQuestion,
     answer: &Answer,
+    note: &'static str,
+    form: &Option<Vec<Pair>>,
 ) -> Result<Next, AllocError>
-    ensures { IfOk result Shows }
+    ensures { IfOk result (TellsEnd asked.now (Some answer.now) form.now) }
 {
-    if matches!(answer.reply(), Reply::NoPath) && last_of(&asked).is_some() {
-        let Ok(kept) = Answer::new(answer.k(), Reply::NoPath) else {
-            return Err(AllocError);
-        };
-        return ask_rows(
-            alloc,
-            Explaining {
-                asked,
-                answer: kept,
-                pairs,
-                from: 0,
-            },
-        );
+    match form {
+        Some(pairs) => Ok(Next::Tell(page(alloc, asked, answer, note, pairs)?)),
+        None => Ok(Next::Tell(verdict(alloc, asked, Route::Explain, answer)?)),
     }
-    Ok(Next::Tell(page(alloc, &asked, answer, "", &pairs)?))
 }
 
-/// Goes on once the node has answered a form's question.
-pub(crate) fn end_form(
+/// Tells that the node failed.
+pub(crate) fn tell_failure(
+    alloc: Global,
+    asked: &AskedQuestion,
+    form: &Option<Vec<Pair>>,
+) -> Result<Next, AllocError>
+    ensures { IfOk result (TellsEnd asked.now None form.now) }
+{
+    match form {
+        Some(pairs) => Ok(Next::Tell(problem(alloc, 503, "the node failed", pairs)?)),
+        None => Ok(Next::Tell(node_failed(alloc)?)),
+    }
+}
+
+/// Goes on once the node has answered a question: tells the answer, unless a search found nothing.
+pub(crate) fn end_search(
     alloc: Global,
     asked: AskedQuestion,
-    pairs: Vec<Pair>,
-    frame: &Frame,
-    board: &mut Board,
+    answer: &Answer,
+    form: Option<Vec<Pair>>,
 ) -> Result<Next, AllocError>
-    ensures { IfOk result Shows }
+    ensures { IfOk result (EndsFirst asked form (Some answer.now)) }
 {
-    match reply_in(frame) {
-        Some(answer) => {
-            board.judged(answer.reply());
-            take_answer(alloc, asked, pairs, answer)
-        }
-        None => Ok(Next::Tell(problem(alloc, 503, "the node failed", &pairs)?)),
+    match nothing_in(answer) {
+        Some(nothing) => begin_explaining(alloc, asked, nothing, form),
+        None => tell(alloc, &asked, answer, "", &form),
     }
 }
 
-/// The id of the first anchor among rows that has this name.
-fn anchor_named(rows: &[Vec<u8>], name: &[u8]) -> Result<Option<[u8; 32]>, AllocError> {
-    for octets in rows {
-        if let Some(row) = AnchorRow::read(octets)? {
-            if row.subject == name {
-                return Ok(Some(row.id));
-            }
+/// The question about the chain that was sent, where there is one.
+fn chain_asked(
+    alloc: Global,
+    explaining: &Explaining,
+    found: Option<AnchorAbove>,
+) -> Result<Option<Question>, AllocError>
+    ensures { IfOk result (λ question. question ≡ chain_asked explaining.now found) }
+{
+    match found {
+        Some(above) => {
+            chain_under(
+                alloc,
+                &explaining.asked.question,
+                explaining.answer.k(),
+                &above,
+            )
         }
+        None => Ok(None),
     }
-    Ok(None)
 }
 
-/// The id of the first anchor among rows that has the name of the chain's last issuer.
-fn anchor_in(explaining: &Explaining, rows: &[Vec<u8>]) -> Result<Option<[u8; 32]>, AllocError> {
-    let Some(octets) = last_of(&explaining.asked) else {
-        return Ok(None);
-    };
-    let Ok(certificate) = Cert::read(octets) else {
-        return Ok(None);
-    };
-    anchor_named(rows, certificate.issuer().element.content)
+/// Asks about the chain that was sent.
+fn ask_chain(alloc: Global, explaining: Explaining, question: Question) -> Result<Next, AllocError>
+    ensures { IfOk result (AsksChain explaining question) }
+{
+    let frame = question_frame(alloc, &question)?;
+    let asked = AskedQuestion::of(alloc, question, explaining.asked.is_pinned)?;
+    Ok(ask(Waits::Chain(asked, explaining.form), frame))
 }
 
-/// Asks about the chain as it stands under an anchor, at the position of the first answer.
-fn ask_explained(
+/// Goes on once the nearest anchor is known, or that there is none.
+fn conclude(
     alloc: Global,
     explaining: Explaining,
-    anchor: [u8; 32],
+    found: Option<AnchorAbove>,
 ) -> Result<Next, AllocError>
-    ensures { IfOk result Shows }
+    ensures { IfOk result (Concludes explaining found) }
 {
-    let now = explaining.asked.question.terms().moment;
-    let mut wanted = match wanted_in(alloc, &explaining.pairs) {
-        Ok(wanted) => wanted,
-        Err(_) => return Err(AllocError),
-    };
-    wanted.anchor = Some(anchor);
-    wanted.k = Some(explaining.answer.k());
-    match asked_of(alloc, wanted, now)? {
-        Ok(asked) => ask_form_explained(alloc, asked, explaining.pairs),
-        Err(why) => Ok(Next::Tell(no_question_page(alloc, why, &explaining.pairs)?)),
+    match chain_asked(alloc, &explaining, found)? {
+        Some(question) => ask_chain(alloc, explaining, question),
+        None => {
+            let Explaining {
+                asked,
+                answer,
+                form,
+                ..
+            } = &explaining;
+            tell(alloc, asked, answer, NO_ANCHOR, form)
+        }
     }
 }
 
-/// Asks the second question of a form.
-fn ask_form_explained(
-    alloc: Global,
-    asked: AskedQuestion,
-    pairs: Vec<Pair>,
-) -> Result<Next, AllocError>
-    ensures { IfOk result Shows }
+/// Whether no anchor stands behind these rows: the first is none, and anchors stand before all
+/// others.
+fn end_anchors(rows: &[Vec<u8>]) -> Result<bool, AllocError>
+    ensures { IfOk result (λ end. IsTrue end ↔ EndsAnchors (map (λ row. row.items) rows.now)) }
 {
-    let frame = question_frame(alloc, &asked.question)?;
-    Ok(ask(Waits::Explained(asked, pairs), frame))
+    match rows {
+        [row, ..] => Ok(!is_anchor(row)?),
+        [] => Ok(true),
+    }
 }
 
-/// The page that says that a search found nothing.
-fn not_found(alloc: Global, explaining: &Explaining) -> Result<Next, AllocError>
-    ensures { IfOk result Shows }
+/// How many rows have been looked at, where more of them may be an anchor's.
+fn rows_passed(
+    explaining: &Explaining,
+    total: u32,
+    rows: &[Vec<u8>],
+) -> Result<Option<u32>, AllocError>
+    ensures { IfOk result (IsPassed explaining.now total (map (λ row. row.items) rows.now)) }
 {
-    let note =
-        "No anchor of the store is named, octet for octet, as the last certificate's issuer is.";
-    Ok(Next::Tell(page(
-        alloc,
-        &explaining.asked,
-        &explaining.answer,
-        note,
-        &explaining.pairs,
-    )?))
+    let passed = explaining.from as usize + rows.len();
+    if passed >= total as usize {
+        return Ok(None);
+    }
+    if end_anchors(rows)? {
+        return Ok(None);
+    }
+    Ok(Some(passed as u32))
 }
 
-/// Goes on with a page of the store.
+/// Goes on with rows of the store.
 fn take_rows(
     alloc: Global,
     explaining: Explaining,
     total: u32,
     rows: &[Vec<u8>],
 ) -> Result<Next, AllocError>
-    ensures { IfOk result Shows }
+    ensures { IfOk result (TakesRows explaining total (map (λ row. row.items) rows.now)) }
 {
-    if let Some(anchor) = anchor_in(&explaining, rows)? {
-        return ask_explained(alloc, explaining, anchor);
+    let sent = sent_in(&explaining.asked.question);
+    let found = nearest(alloc, sent, explaining.found, rows)?;
+    match rows_passed(&explaining, total, rows)? {
+        Some(from) => {
+            let mut explaining = explaining;
+            explaining.from = from;
+            explaining.found = found;
+            ask_rows(alloc, explaining)
+        }
+        None => conclude(alloc, explaining, found),
     }
-    let from = explaining.from.saturating_add(rows.len().min(64) as u32);
-    if rows.is_empty() || from >= total {
-        return not_found(alloc, &explaining);
-    }
-    let mut explaining = explaining;
-    explaining.from = from;
-    ask_rows(alloc, explaining)
 }
 
 /// Goes on once the node has answered with rows of the store.
@@ -244,28 +260,28 @@ pub(crate) fn go_on_anchors(
     explaining: Explaining,
     frame: &Frame,
 ) -> Result<Next, AllocError>
-    ensures { IfOk result Shows }
+    ensures { IfOk result (GoesOnRows explaining (reply_in frame.now)) }
 {
     let Some(answer) = reply_in(frame) else {
-        return not_found(alloc, &explaining);
+        return tell_failure(alloc, &explaining.asked, &explaining.form);
     };
     match answer.reply() {
         Reply::Page { total, rows } => take_rows(alloc, explaining, *total, rows.as_slice()),
-        _ => not_found(alloc, &explaining),
+        _ => tell_failure(alloc, &explaining.asked, &explaining.form),
     }
 }
 
-/// Goes on once the node has answered a form's second question.
-pub(crate) fn end_explained(
+/// Goes on once the node has answered the question about the chain that was sent.
+pub(crate) fn end_chain(
     alloc: Global,
     asked: &AskedQuestion,
-    pairs: &[Pair],
+    form: &Option<Vec<Pair>>,
     frame: &Frame,
 ) -> Result<Next, AllocError>
-    ensures { IfOk result Shows }
+    ensures { IfOk result (TellsEnd asked.now (reply_in frame.now) form.now) }
 {
     match reply_in(frame) {
-        Some(answer) => Ok(Next::Tell(page(alloc, asked, answer, EXPLAINED, pairs)?)),
-        None => Ok(Next::Tell(problem(alloc, 503, "the node failed", pairs)?)),
+        Some(answer) => tell(alloc, asked, answer, AS_SENT, form),
+        None => tell_failure(alloc, asked, form),
     }
 }

@@ -3,12 +3,12 @@
 ghost use Rattle.std.specs.Prelude.{◌≡◌, ◌≤◌, ◌⊎◌, ◌&&◌, List, None, IfOk, OnOk, length};
 ghost use Rattle.std.specs.Prelude.{option_map, take, true, false};
 ghost use Rattle.ts_http.specs.Moves.{HasCome, HasLeft, is_ended, is_read, request_in};
-ghost use Rattle.ts_http.specs.Times.{idle_since, is_late_in};
+ghost use Rattle.ts_http.specs.Times.{enter_phase, idle_since, is_late_in, lighten, phase_in};
 ghost use Rattle.ts_site.specs.Account.{IsBegun};
 ghost use Rattle.ts_api.specs.Response.{IsLine};
 ghost use Rattle.ts_api.specs.declared.response.Response.{Response};
 ghost use Rattle.ts_site.specs.Faces.{Follows, HasBegun, IsDone, IsGiven, Responds, State};
-ghost use Rattle.ts_site.specs.Faces.{Takes, has_room, state_of, wrong_words};
+ghost use Rattle.ts_site.specs.Faces.{IsTimed, Takes, has_room, state_of, wrong_words};
 ghost use Rattle.ts_site.specs.inside.Stepping.{IsStep};
 ghost use Rattle.ts_site.specs.declared.next.Next.TheVariants.{Tell};
 
@@ -56,7 +56,8 @@ fn words_of(status: u16) -> &'static str
 impl Face {
     /// A connection of which nothing has come, at this moment in milliseconds.
     pub fn new(alloc: Global, now: u64) -> Face
-        ensures { IsBegun (state_of result) }
+        ensures begun { IsBegun (state_of result) }
+        ensures paused { result.paused ≡ false }
     {
         Face {
             alloc,
@@ -74,6 +75,9 @@ impl Face {
     pub fn push(&mut self, piece: &[u8], now: u64) -> Result<(), AllocError>
         ensures came { OnOk result (HasCome self.old.connection self.new.connection piece.now) }
         ensures asks { self.new.asking ≡ self.old.asking }
+        ensures paused { self.new.paused ≡ self.old.paused }
+        ensures times { OnOk result (self.new.connection.times
+            ≡ enter_phase (phase_in self.new.connection) now self.old.connection.times) }
     {
         self.connection.push(piece, now)
     }
@@ -123,6 +127,9 @@ impl Face {
         ensures left { HasLeft self.old.connection self.new.connection
             (take count self.old.connection.out) }
         ensures asks { self.new.asking ≡ self.old.asking }
+        ensures paused { self.new.paused ≡ self.old.paused }
+        ensures times { self.new.connection.times ≡ enter_phase (phase_in self.new.connection) now
+            (lighten count now self.old.connection.times) }
     {
         self.connection.leave(count, now);
     }
@@ -152,6 +159,9 @@ impl Face {
         ensures responds { OnOk result
             (Responds self.old.connection self.new.connection response.now) }
         ensures asks { self.new.asking ≡ self.old.asking }
+        ensures paused { self.new.paused ≡ self.old.paused }
+        ensures times { OnOk result (self.new.connection.times
+            ≡ enter_phase (phase_in self.new.connection) now self.old.connection.times) }
     {
         let headers = headers_of(self.alloc, response)?;
         let (status, phrase) = (response.status, phrase_of(response.status));
@@ -181,7 +191,9 @@ impl Face {
 
     /// Writes a response, or asks the node.
     fn follow(&mut self, next: Next, board: &mut Board, now: u64) -> Result<(), HttpFault>
-        ensures { OnOk result (Follows next (state_of self.old) (state_of self.new)) }
+        ensures follows { OnOk result (Follows next (state_of self.old) (state_of self.new)) }
+        ensures paused { self.new.paused ≡ self.old.paused }
+        ensures times { OnOk result (IsTimed now self.old self.new) }
     {
         match next {
             Next::Tell(response) => {
@@ -267,7 +279,9 @@ impl Face {
     ///
     /// Memory that is refused; `Write` where nothing was asked. The connection can't go on then.
     pub fn give(&mut self, frame: &Frame, board: &mut Board, now: u64) -> Result<(), HttpFault>
-        ensures { OnOk result (IsGiven (state_of self.old) frame.now (state_of self.new)) }
+        ensures given { OnOk result (IsGiven (state_of self.old) frame.now (state_of self.new)) }
+        ensures paused { self.new.paused ≡ self.old.paused }
+        ensures times { OnOk result (IsTimed now self.old self.new) }
     {
         let Some(asking) = self.asking.take() else {
             return Err(HttpFault::Write);

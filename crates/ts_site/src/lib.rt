@@ -19,8 +19,10 @@
 //!   its path, its method and what it says, and an answer of the node to what `GoesOn` says
 //!   (`specs/Requests`): of which question the frame is, and which status a response has, which
 //!   body, which header fields, and for how long it may be kept (`specs/Verdicts`, `Listings`,
-//!   `Statuses`). A command is handed on only from whoever shows the secret of a key that may
-//!   submit it, and is refused with 401 or 403 and these words else (`specs/Commanding`).
+//!   `Statuses`). Where a search found nothing, at `/v1/explain` and for the page's form, the node
+//!   is asked for its anchors, and then about the chain that was sent (`specs/Explaining`). A
+//!   command is handed on only from whoever shows the secret of a key that may submit it, and is
+//!   refused with 401 or 403 and these words else (`specs/Commanding`).
 //! - [`asks_for_requests`], [`asks_their_questions`]: over every list of calls of a connection, the
 //!   node is asked for the request that waits, and, where a verdict is asked, the question that
 //!   this request says.
@@ -31,13 +33,15 @@
 //!
 //! # Not promised
 //!
-//! What pages show and ask the node for, and what is counted. `tools/browser` looks at pages.
+//! What pages show, what the page of the store asks the node for, what is counted, and from when
+//! `Face::take` counts the time of what it does. `tools/browser` looks at pages.
 #![tactic(auto)]
 
 mod board;
 mod commanding;
 mod explaining;
 mod face;
+mod form;
 mod frames;
 mod gauging;
 mod laws;

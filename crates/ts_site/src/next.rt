@@ -56,10 +56,10 @@ pub(crate) enum Waits {
     HomeRows(HomeAsked, u32),
     /// The question of the page's form.
     Form(AskedQuestion, Vec<Pair>),
-    /// Rows of the store, among which the anchor of a chain may be that no search found valid.
+    /// Rows of the store, among which the anchor above a chain may be that a search left open.
     Anchors(Explaining),
-    /// The same chain under that anchor.
-    Explained(AskedQuestion, Vec<Pair>),
+    /// The question about that chain, for a program, or for the page of these fields.
+    Chain(AskedQuestion, Option<Vec<Pair>>),
     /// How many commands it knows, for the metrics.
     Metrics,
     /// Rows of the store, for the metrics.

@@ -5,7 +5,8 @@ ghost use Rattle.ts_site.specs.Requests.{Begins, GoesOn};
 
 use crate::board::Board;
 use crate::commanding::{begin_command, begin_outcome, end_command};
-use crate::explaining::{begin_form, end_explained, end_form, go_on_anchors};
+use crate::explaining::{end_chain, go_on_anchors};
+use crate::form::{begin_form, end_form};
 use crate::gauging::{go_on_gauge, go_on_metrics};
 use crate::listing::{begin_rows, end_rows};
 use crate::next::{Next, Pending, Waits};
@@ -32,7 +33,9 @@ pub(crate) fn begin(alloc: Global, request: &Request, scene: &Scene<'_>) -> Resu
         return Ok(Next::Tell(not_allowed(alloc, route)?));
     }
     match route {
-        Route::Verify | Route::Check => begin_verdict(alloc, request, route, scene.now),
+        Route::Verify | Route::Check | Route::Explain => {
+            begin_verdict(alloc, request, route, scene.now)
+        }
         Route::Form => begin_form(alloc, request, scene.now),
         Route::Store => begin_rows(alloc, request, false),
         Route::Log => begin_rows(alloc, request, true),
@@ -65,7 +68,7 @@ pub(crate) fn go_on(
     ensures { IfOk result (GoesOn pending.waits frame.now) }
 {
     match pending.waits {
-        Waits::Verdict(asked, route) => end_verdict(alloc, &asked, route, frame, board),
+        Waits::Verdict(asked, route) => end_verdict(alloc, asked, route, frame, board),
         Waits::Rows(asked) => end_rows(alloc, asked, frame),
         Waits::Health => end_health(alloc, frame),
         Waits::Prefix => end_prefix(alloc, frame),
@@ -75,7 +78,7 @@ pub(crate) fn go_on(
         Waits::HomeRows(asked, prefix) => end_home(alloc, asked, prefix, frame, board),
         Waits::Form(asked, pairs) => end_form(alloc, asked, pairs, frame, board),
         Waits::Anchors(explaining) => go_on_anchors(alloc, explaining, frame),
-        Waits::Explained(asked, pairs) => end_explained(alloc, &asked, &pairs, frame),
+        Waits::Chain(asked, form) => end_chain(alloc, &asked, &form, frame),
         Waits::Metrics => go_on_metrics(alloc, frame, board),
         Waits::Gauge(gauging) => go_on_gauge(alloc, gauging, frame, board),
     }

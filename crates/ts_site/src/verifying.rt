@@ -1,13 +1,14 @@
 //! Verdicts over HTTP, for programs.
 
-ghost use Rattle.std.specs.Prelude.{◌≡◌, IfOk, Ok};
+ghost use Rattle.std.specs.Prelude.{◌≡◌, IfOk, Ok, Some};
 ghost use Rattle.ts_render.specs.Replies.{valid_in};
 ghost use Rattle.ts_site.specs.Frames.{reply_in};
-ghost use Rattle.ts_site.specs.Steps.{Answers};
-ghost use Rattle.ts_site.specs.Verdicts.{AsksQuestion, BeginsVerdict, IsVerdict, TellsVerdict};
+ghost use Rattle.ts_site.specs.Explaining.{EndsVerdict, explains};
+ghost use Rattle.ts_site.specs.Verdicts.{AsksQuestion, BeginsVerdict, IsVerdict};
 ghost use Rattle.ts_site.specs.Verdicts.{keeps_of, verdict_status};
 
 use crate::board::Board;
+use crate::explaining::end_search;
 use crate::frames::reply_in;
 use crate::next::{Next, Waits, ask};
 use crate::refusing::{no_question, node_failed};
@@ -29,7 +30,7 @@ fn ask_question(alloc: Global, asked: AskedQuestion, route: Route) -> Result<Nex
     Ok(ask(Waits::Verdict(asked, route), frame))
 }
 
-/// Begins a request to `/v1/verify` or `/v1/check`.
+/// Begins a request to `/v1/verify`, `/v1/check` or `/v1/explain`.
 pub(crate) fn begin_verdict(
     alloc: Global,
     request: &Request,
@@ -66,7 +67,7 @@ pub(crate) fn time_kept(is_pinned: bool, reply: &Reply) -> Keeps
 }
 
 /// The answer to a question.
-fn verdict(
+pub(crate) fn verdict(
     alloc: Global,
     asked: &AskedQuestion,
     route: Route,
@@ -82,20 +83,42 @@ fn verdict(
     Ok(response)
 }
 
+/// Whether a route is that where it is said why no chain is valid.
+fn explains(route: Route) -> bool
+    ensures { result ≡ explains route }
+{
+    route == Route::Explain
+}
+
+/// Tells an answer, or begins to look for why a search found nothing.
+fn tell_or_explain(
+    alloc: Global,
+    asked: AskedQuestion,
+    route: Route,
+    answer: &Answer,
+) -> Result<Next, AllocError>
+    ensures { IfOk result (EndsVerdict asked route (Some answer.now)) }
+{
+    if explains(route) {
+        return end_search(alloc, asked, answer, None);
+    }
+    Ok(Next::Tell(verdict(alloc, &asked, route, answer)?))
+}
+
 /// Goes on once the node has answered.
 pub(crate) fn end_verdict(
     alloc: Global,
-    asked: &AskedQuestion,
+    asked: AskedQuestion,
     route: Route,
     frame: &Frame,
     board: &mut Board,
 ) -> Result<Next, AllocError>
-    ensures { IfOk result (Answers (TellsVerdict asked.now route (reply_in frame.now))) }
+    ensures { IfOk result (EndsVerdict asked route (reply_in frame.now)) }
 {
     match reply_in(frame) {
         Some(answer) => {
             board.judged(answer.reply());
-            Ok(Next::Tell(verdict(alloc, asked, route, answer)?))
+            tell_or_explain(alloc, asked, route, answer)
         }
         None => Ok(Next::Tell(node_failed(alloc)?)),
     }

@@ -1,5 +1,5 @@
 -- What one step of `Face::take` does.
-use Rattle.std.specs.Prelude.{◌≡◌, ◌≤◌, ◌⊎◌, Bool, true, false, List, [], ◌∷◌, Option, Some, length}
+use Rattle.std.specs.Prelude.{◌≡◌, ◌≤◌, ◌⊎◌, Bool, true, false, List, [], ◌∷◌, Some, length}
 use Rattle.ts_http.specs.Moves.{is_ended}
 use Rattle.ts_http.specs.Reading.{is_due}
 use Rattle.ts_api.specs.declared.scene.Scene.{Scene}

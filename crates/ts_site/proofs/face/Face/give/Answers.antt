@@ -5,8 +5,8 @@ use Rattle.ts_site.specs.declared.face.Asking.{Asking}
 use Rattle.ts_site.proofs.Begun.{on_ok}
 use Rattle.ts_site.proofs.face.Face.give.Goals as goal
 
-pub returns : goal.returns
-returns c =
+pub returns-clause-given : goal.returns-clause-given
+returns-clause-given c =
     let was : c.args.self.now.asking ≡ Some c.in-Some.asking = search rules in
     let none : c.take.new.self ≡ None = search rules in
     on_ok c.follow.result _ _
@@ -16,4 +16,4 @@ returns c =
       c.in_ok-next.next,
       c.in_ok-next.ensures,
       subst (λ (o : Option Asking). Follows c.in_ok-next.next (c.args.self.now.connection, o) (state_of c.follow.new.self)) none follows,
-    )) c.follow.ensures
+    )) c.follow.ensures.follows

@@ -1,6 +1,6 @@
 -- One more step, behind the others; and why there is no other.
-use Rattle.std.proofs.Common.{rules, arith, ◌≡◌, inl, inr, refl, subst, Bool, true, false, None, ◌++◌}
-use Rattle.ts_site.specs.Faces.{State, state_of}
+use Rattle.std.proofs.Common.{rules, arith, ◌≡◌, inl, inr, subst, Bool, true, false, None, ◌++◌}
+use Rattle.ts_site.specs.Faces.{state_of}
 use Rattle.ts_site.specs.inside.Stepping.{Leads}
 use Rattle.ts_site.proofs.Steps.{counted, finished, idle_behind, joined}
 use Rattle.ts_site.proofs.face.Face.take.Goals as goal
