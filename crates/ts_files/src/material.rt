@@ -153,7 +153,9 @@ fn one_in<R: Files + Eprint>(
 /// Says why a file's octets are refused, with the rule and its offset.
 fn refuse(rt: &impl Eprint, path: &str, what: &str, fault: CertFault) -> TaskFault {
     let (rule, at) = (fault.kind, fault.at);
-    let _ = eprintln!(rt; "trustd: {path}: no {what}: {rule} at {at} (--force writes it anyway)");
+    let _ = eprintln!(rt;
+        "trustd: {path}: no {what}: {rule} at {at} (trustd command --force takes it)"
+    );
     TaskFault::Field
 }
 
@@ -203,7 +205,7 @@ fn is_crl(rt: &impl Eprint, path: &str, octets: &[u8]) -> bool
         Ok(_) => true,
         Err(_) => {
             let _ = eprintln!(rt;
-                "trustd: {path}: no CRL that a store takes (--force writes it anyway)"
+                "trustd: {path}: no CRL that a store takes (trustd command --force takes it)"
             );
             false
         }

@@ -21,7 +21,7 @@ pub enum LoopFault {
     Clock,
     /// Memory was refused for the slots.
     Memory,
-    /// A device of the node failed. What it had answered was written first, where clients read it.
+    /// A device of the node failed. The loop ended at once: what was asked last is not answered.
     NodeFailed,
 }
 
