@@ -1,7 +1,6 @@
 //! The files of a node's record.
 
-ghost use Rattle.std.specs.Prelude.{◌≡◌, ◌≤◌, OnOk};
-ghost use Rattle.ts_disk.specs.Disk.{IsDurable};
+ghost use Rattle.std.specs.Prelude.{◌≤◌};
 
 use crate::fault::TaskFault;
 use crate::files::{fault_of, second};
@@ -10,20 +9,9 @@ use std::alloc::Global;
 use std::fs::File;
 use std::rt::Files;
 use ts_command::Command;
-use ts_disk::{Disk, DiskFault};
+use ts_disk::Disk;
 use ts_file::{FileDisk, create, open};
 use ts_record::{Record, RecordFault};
-use ts_show::{Kind, kind_of};
-
-/// Writes the octets of a disk once more as they are, and syncs them.
-fn write_again<D: Disk>(disk: &mut D, octets: &[u8]) -> Result<(), DiskFault>
-    requires { octets.now ≡ (D.state disk.old).read }
-    ensures same { OnOk result ((D.state disk.new).read ≡ (D.state disk.old).read) }
-    ensures durable { OnOk result (IsDurable (D.state disk.new)) }
-{
-    disk.write_at(0, octets)?;
-    disk.sync()
-}
 
 /// The disk of a file that is there.
 fn open_disk<R: Files + Eprint>(
@@ -37,50 +25,19 @@ fn open_disk<R: Files + Eprint>(
     }
 }
 
-/// Writes the octets of a disk once more, if they are a record's.
-fn refresh<D: Disk>(disk: &mut D, alloc: Global) -> Result<(), TaskFault> {
-    let octets = match disk.read(alloc) {
-        Ok(octets) => octets,
-        Err(fault) => return Err(TaskFault::from(RecordFault::from(fault))),
-    };
-    if !matches!(kind_of(alloc, &octets)?, Kind::Record) {
-        return Ok(());
-    }
-    match write_again(disk, &octets) {
-        Ok(()) => Ok(()),
-        Err(fault) => Err(TaskFault::from(RecordFault::from(fault))),
-    }
-}
-
-/// The disk of a file of a record, whose octets are written once more first. A system may show
-/// octets that it failed to write as if they were on the disk, and answer the next sync well: where
-/// a node was started again after a failed sync, a power cut could else take what it then answers
-/// by.
-fn open_written<R: Files + Eprint>(
-    rt: &R,
-    alloc: Global,
-    path: &str,
-) -> Result<FileDisk<R::File>, TaskFault> {
-    let mut disk = open_disk(rt, alloc, path)?;
-    let written = refresh(&mut disk, alloc);
-    drop(disk);
-    written?;
-    open_disk(rt, alloc, path)
-}
-
 /// The two disks of a record that is there: the file, and the one whose name ends in `.b`.
 ///
 /// # Errors
 ///
-/// `File`, `Memory`; `DiskFailed` where they can't be written.
+/// `File`, `Memory`.
 pub fn open_disks<R: Files + Eprint>(
     rt: &R,
     alloc: Global,
     path: &str,
 ) -> Result<(FileDisk<R::File>, FileDisk<R::File>), TaskFault> {
     let other = second(alloc, path)?;
-    let a = open_written(rt, alloc, path)?;
-    let b = open_written(rt, alloc, other.as_str())?;
+    let a = open_disk(rt, alloc, path)?;
+    let b = open_disk(rt, alloc, other.as_str())?;
     Ok((a, b))
 }
 
