@@ -13,6 +13,7 @@
 //! What is proved of each call:
 //!
 //! - [`NativeCheck`]'s `good`: the answer is `native_accepts` of the four values (`specs/Native`).
+//!   [`ALGORITHMS`] names what it takes, in words.
 //! - law [`laws::one_hash_has_one_answer`]: signed octets with one hash, by the function that the
 //!   identifier names (`hash_named` of `ts_sig`), have the same good signatures.
 //! - law [`laws::accepts_signatures`]: that test is true exactly where the identifier names an
@@ -34,4 +35,4 @@ mod native;
 mod public_key;
 mod rsa;
 
-pub use native::NativeCheck;
+pub use native::{ALGORITHMS, NativeCheck};

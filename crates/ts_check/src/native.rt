@@ -11,6 +11,14 @@ use crate::rsa::{pkcs1_takes, pss_takes};
 use ts_digest::Message;
 use ts_sig::{SignatureAlgorithm, SignatureCheck, WorkingKey, algorithm_named};
 
+/// The algorithms in words, one a line, for whoever asks which a program has.
+pub const ALGORITHMS: &str = "\
+algorithm RSASSA-PKCS1-v1_5 with SHA-256, SHA-384, SHA-512
+algorithm RSASSA-PSS with SHA-256, SHA-384, SHA-512
+algorithm ECDSA on P-256 and P-384 with SHA-256, SHA-384, SHA-512
+algorithm Ed25519
+";
+
 /// Checks signatures by RSA, ECDSA and Ed25519. It has no state: each node that has this version
 /// answers alike.
 #[derive(Clone, Copy, Debug)]

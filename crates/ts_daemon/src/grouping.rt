@@ -3,12 +3,12 @@
 use std::alloc::{AllocError, Global};
 use std::rt::Files;
 use ts_access::{Key, Role};
+use ts_check::ALGORITHMS;
 use ts_cli::{ServeWords, VERSION, peer_of};
 use ts_files::{TaskFault, key_in, keyring_of};
 use ts_meter::Meter;
 use ts_node::Identity;
 use ts_peers::{Group, PeerAddress};
-use ts_sig::ALGORITHMS;
 use ts_sockets::Access;
 
 /// Whether a peer of this number may be added: it is another node of the group, and is not there

@@ -24,7 +24,9 @@ none_listed [] is = refl
 none_listed (i ∷ others) is = absurd (cc is)
 
 -- what is written behind commas, in two steps
-pub two_behind : (before between after : List ℕ) (some others : List (List ℕ)) → between ≡ before ++ behind_commas some → after ≡ between ++ behind_commas others → after ≡ before ++ behind_commas (some ++ others)
+pub two_behind : (before between after : List ℕ) (some others : List (List ℕ))
+    → between ≡ before ++ behind_commas some → after ≡ between ++ behind_commas others
+    → after ≡ before ++ behind_commas (some ++ others)
 two_behind before between after some others first second =
     second ∙ (ap (λ (t : List ℕ). t ++ behind_commas others) first
     ∙ (append_assoc before (behind_commas some) (behind_commas others)

@@ -20,14 +20,6 @@ pub enum SignatureAlgorithm {
     Ed25519,
 }
 
-/// The algorithms in words, one a line, for whoever asks which a program has.
-pub const ALGORITHMS: &str = "\
-algorithm RSASSA-PKCS1-v1_5 with SHA-256, SHA-384, SHA-512
-algorithm RSASSA-PSS with SHA-256, SHA-384, SHA-512
-algorithm ECDSA on P-256 and P-384 with SHA-256, SHA-384, SHA-512
-algorithm Ed25519
-";
-
 /// The AlgorithmIdentifier of RSASSA-PKCS1-v1_5, with parameters NULL (RFC 4055 5).
 fn pkcs1_with_null(hash: Hash) -> &'static [u8]
     ensures { result.now ≡ pkcs1_identifier hash true }
