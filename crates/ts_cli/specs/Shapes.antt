@@ -194,11 +194,11 @@ diff = with_key (leaf (codes "diff")
 unfoldable pub with_listings : App → App
 with_listings app = with_tasks app (store ∷ log ∷ diff ∷ [])
 
--- the files of what a store is to hold, and of those who may have signed it
+-- the files of what a store is to hold, and of those who may have signed it; which of them count
 unfoldable pub with_material : Shape → Shape
 with_material own = with_arguments own
-    (options (codes "anchors") ∷ options (codes "crls") ∷ options (codes "issuer")
-    ∷ flag (codes "unchecked") ∷ [])
+    (options (codes "anchors") ∷ flag (codes "pass-over") ∷ options (codes "crls")
+    ∷ options (codes "issuer") ∷ flag (codes "unchecked") ∷ [])
 
 -- an address, what is to be held, whether it is only said, and how long to wait
 unfoldable pub sync : Shape

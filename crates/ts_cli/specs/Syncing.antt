@@ -8,6 +8,7 @@ use Rattle.ts_cli.specs.declared.sync_words.SyncWords.{SyncWords}
 pub record IsSync (rows : List Row) (words : SyncWords) : Type 0 where
   pub reach_is : IsReach rows words.reach
   pub anchors_are : map string_bytes words.anchors.items ≡ all_at (codes "anchors") rows
+  pub pass_over_is : words.pass_over ≡ is_set (codes "pass-over") rows
   pub crls_are : map string_bytes words.crls.items ≡ all_at (codes "crls") rows
   pub issuers_are : map string_bytes words.issuers.items ≡ all_at (codes "issuer") rows
   pub unchecked_is : words.unchecked ≡ is_set (codes "unchecked") rows

@@ -19,6 +19,8 @@ fn with_material<'a>(alloc: Global, own: Making<Command<'a>>) -> Making<Command<
 {
     let help = "Hold exactly the anchors of these files and folders; leave them if not given";
     let all = with(own, options(alloc, "anchors", "FILE", help));
+    let help = "Pass over each certificate of --anchors that breaks a rule, and say which";
+    let all = with(all, flag(alloc, "pass-over", help));
     let help = "Hold exactly the CRLs of these files and folders; leave the CRLs if not given";
     let all = with(all, options(alloc, "crls", "FILE", help));
     let help = "A certificate, beside those of --anchors, that may have signed a CRL";

@@ -18,6 +18,8 @@ pub struct SyncWords {
     pub reach: Reach,
     /// The files and folders of trust anchors; none to leave the anchors as they are.
     pub anchors: Vec<String>,
+    /// Whether a certificate of these that breaks a rule is passed over.
+    pub pass_over: bool,
     /// The files and folders of CRLs; none to leave the CRLs as they are.
     pub crls: Vec<String>,
     /// The files of certificates, beside the anchors, of which one may have signed a CRL.
@@ -42,6 +44,7 @@ pub(crate) fn sync_words(alloc: Global, matches: &ArgMatches<'_>) -> Result<Sync
     Ok(SyncWords {
         reach: reach_at(alloc, matches)?,
         anchors,
+        pass_over: is_set(matches, "pass-over"),
         crls,
         issuers: strings_at(alloc, matches, "issuer")?,
         unchecked: is_set(matches, "unchecked"),

@@ -2,19 +2,54 @@
 //! come to as they were sent.
 
 use crate::keyed::ReachedNode;
-use crate::listing::all_rows;
+use crate::listing::{MAX_STORE_PAGES, page_of};
 use crate::requests::answer_of;
 use std::alloc::Global;
 use std::io::Print;
 use std::net::Net;
 use std::random::RandomSource;
 use std::rt::Clock;
-use ts_exchange::answer_to_question;
+use ts_exchange::{PageWalk, Rows, answer_to_question};
 use ts_files::{TaskFault, put, say};
 use ts_question::{Answer, Question, Reply};
 use ts_render::explanation;
-use ts_sent::{chain_under, nearest, sent_in};
+use ts_sent::{AnchorAbove, chain_under, is_anchor, nearest, sent_in};
 use ts_wire::Frame;
+
+/// Whether an anchor may stand behind these rows: the last is one, and anchors stand before all
+/// other rows.
+fn may_go_on(rows: &[Vec<u8>]) -> Result<bool, TaskFault> {
+    match rows {
+        [.., row] => Ok(is_anchor(row)?),
+        [] => Ok(false),
+    }
+}
+
+/// The nearest anchor of the server's store, after k commands, that is an issuer of certificates
+/// that were sent.
+fn anchor_above<R: Net + Clock + RandomSource>(
+    alloc: Global,
+    server: &mut ReachedNode<'_, R>,
+    sent: &[Vec<u8>],
+    k: u32,
+) -> Result<Option<AnchorAbove>, TaskFault> {
+    let mut walk = PageWalk {
+        rows: Rows::Store,
+        k: Some(k),
+        from: 0,
+    };
+    let mut found = None;
+    for _ in 0..MAX_STORE_PAGES {
+        let Ok(page) = page_of(alloc, server, &walk)? else {
+            return Ok(None);
+        };
+        found = nearest(alloc, sent, found, &page.rows)?;
+        if !walk.pass(page.k, page.total, &page.rows) || !may_go_on(&page.rows)? {
+            return Ok(found);
+        }
+    }
+    Ok(found)
+}
 
 /// The question about the certificates of a search as they were sent, after k commands, where an
 /// anchor of the server's store is the issuer of one.
@@ -24,10 +59,7 @@ fn question_as_sent<R: Net + Clock + RandomSource>(
     search: &Question,
     k: u32,
 ) -> Result<Option<Question>, TaskFault> {
-    let Ok(rows) = all_rows(alloc, server, Some(k))? else {
-        return Ok(None);
-    };
-    match nearest(alloc, sent_in(search), None, &rows)? {
+    match anchor_above(alloc, server, sent_in(search), k)? {
         Some(above) => Ok(chain_under(alloc, search, k, &above)?),
         None => Ok(None),
     }

@@ -22,17 +22,17 @@ const MAX_PAGES: u32 = 16_384;
 
 /// The most pages of a store, which has at most 2,304 rows: 36, and some for a node of another
 /// version.
-const MAX_STORE_PAGES: u32 = 64;
+pub(crate) const MAX_STORE_PAGES: u32 = 64;
 
 /// A page that a node answered with.
 #[derive(Drop)]
-struct Page {
+pub(crate) struct Page {
     /// After how many commands it holds.
-    k: u32,
+    pub k: u32,
     /// How many rows there are in all.
-    total: u32,
+    pub total: u32,
     /// Those of the page.
-    rows: Vec<Vec<u8>>,
+    pub rows: Vec<Vec<u8>>,
 }
 
 /// What a node answers in a page's place: how many commands it knows, which are too few.
@@ -43,7 +43,7 @@ pub(crate) struct TooFew {
 }
 
 /// Asks a peer for the next page.
-fn page_of<P: Peer>(
+pub(crate) fn page_of<P: Peer>(
     alloc: Global,
     peer: &mut P,
     walk: &PageWalk,

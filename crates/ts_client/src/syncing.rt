@@ -22,16 +22,15 @@ use ts_show::Kind;
 use ts_sync::PlanStep;
 use ts_wire::Frame;
 
-/// What the files that paths name hold of a kind.
-fn values_of<R: AllocGlobal + Files + Eprint + Clone + Drop>(
+/// The CRLs of the files that paths name.
+fn crls_of<R: AllocGlobal + Files + Eprint + Clone + Drop>(
     rt: &R,
     paths: &[String],
-    wanted: Kind,
 ) -> Result<Vec<Value>, TaskFault> {
     let alloc = rt.alloc();
     let mut values = Vec::new(alloc);
     for file in files_of(rt, paths)? {
-        for octets in values_in(rt, alloc, file.as_str(), wanted)? {
+        for octets in values_in(rt, alloc, file.as_str(), Kind::List)? {
             let file = String::from_str(alloc, file.as_str())?;
             values.push(Value::new(file, octets))?;
         }
@@ -39,38 +38,53 @@ fn values_of<R: AllocGlobal + Files + Eprint + Clone + Drop>(
     Ok(values)
 }
 
-/// Which value of its file the next one is, behind these: from 1.
-fn place_behind(values: &[Value], file: &str) -> usize {
-    let before = values
-        .iter()
-        .filter(|value| value.file.as_str() == file)
-        .count();
-    before.saturating_add(1)
-}
-
-/// Whether each of these is a certificate by each rule; standard error says which one is none.
-fn are_certificates(rt: &impl Eprint, anchors: &[Value]) -> bool {
-    for (at, anchor) in anchors.iter().enumerate() {
-        let file = anchor.file.as_str();
-        if !is_certificate(rt, file, &anchor.octets) {
-            let place = place_behind(&anchors[..at], file);
-            let _ = eprintln!(rt; "trustd: {file}: of its certificates it is number {place}");
-            return false;
+/// Adds the certificates of a file, each of which is one by each rule. Standard error says which
+/// one is none, and why; it is passed over where that is wanted.
+fn add_certificates<R: Files + Eprint>(
+    rt: &R,
+    alloc: Global,
+    file: &str,
+    pass_over: bool,
+    values: &mut Vec<Value>,
+) -> Result<(), TaskFault> {
+    let mut place: usize = 0;
+    for octets in values_in(rt, alloc, file, Kind::Certificate)? {
+        place = place.saturating_add(1);
+        if is_certificate(rt, file, &octets) {
+            values.push(Value::new(String::from_str(alloc, file)?, octets))?;
+            continue;
+        }
+        let _ = eprintln!(rt; "trustd: {file}: of its certificates it is number {place}");
+        if !pass_over {
+            return Err(TaskFault::Field);
         }
     }
-    true
+    Ok(())
 }
 
-/// What the files hold that the words name. Each certificate is one by each rule.
+/// The trust anchors of the files that the words name. There is one where they name any.
+fn anchors_of<R: AllocGlobal + Files + Eprint + Clone + Drop>(
+    rt: &R,
+    words: &SyncWords,
+) -> Result<Vec<Value>, TaskFault> {
+    let alloc = rt.alloc();
+    let mut anchors = Vec::new(alloc);
+    for file in files_of(rt, &words.anchors)? {
+        add_certificates(rt, alloc, file.as_str(), words.pass_over, &mut anchors)?;
+    }
+    if anchors.is_empty() && !words.anchors.is_empty() {
+        return Err(TaskFault::Field);
+    }
+    Ok(anchors)
+}
+
+/// What the files hold that the words name.
 fn wanted_by<R: AllocGlobal + Files + Eprint + Clone + Drop>(
     rt: &R,
     words: &SyncWords,
 ) -> Result<WantedFiles, TaskFault> {
-    let anchors = values_of(rt, &words.anchors, Kind::Certificate)?;
-    if !are_certificates(rt, &anchors) {
-        return Err(TaskFault::Field);
-    }
-    let crls = values_of(rt, &words.crls, Kind::List)?;
+    let anchors = anchors_of(rt, words)?;
+    let crls = crls_of(rt, &words.crls)?;
     Ok(WantedFiles { anchors, crls })
 }
 

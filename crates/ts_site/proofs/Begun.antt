@@ -17,3 +17,9 @@ begun (Err e) route target body now found by asks = tt
 pub on_ok : {T E : Type 0} (result : Result T E) (P Q : Type 0) → (P → Q) → OnOk result P → OnOk result Q
 on_ok (Ok x) P Q then holds = then holds
 on_ok (Err e) P Q then holds = tt
+
+-- the same of two facts
+pub on_both : {T E : Type 0} (result : Result T E) (P Q R : Type 0) → (P → Q → R) → OnOk result P
+    → OnOk result Q → OnOk result R
+on_both (Ok x) P Q R then first second = then first second
+on_both (Err e) P Q R then first second = tt

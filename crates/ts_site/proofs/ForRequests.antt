@@ -1,5 +1,5 @@
 -- What the node is asked is for the request that waits, whatever is called.
-use Rattle.std.proofs.Common.{◌≡◌, ◌∙◌, sym, ap, subst, List, [], ◌∷◌, Option, Some, None, unwrap_or, inl, inr}
+use Rattle.std.proofs.Common.{◌≡◌, ◌∙◌, ℕ, sym, ap, subst, List, [], ◌∷◌, Option, Some, None, unwrap_or, inl, inr}
 use Rattle.ts_http.specs.Moves.{request_at, request_in}
 use Rattle.ts_http.specs.declared.request.Request.{Request}
 use Rattle.ts_wire.specs.declared.frame.Frame.{Frame}
@@ -37,43 +37,43 @@ asked s t r asking stays asks waits is other e = (
 
 -- ---- before the node is asked
 
-first : (scene : Scene) (s t : State) (r : Request) (next : Next) → s.1 ≡ None
-    → request_in s.0 ≡ Some r → Begins scene r next → Follows next s t → AsksForIts t
-first scene s t r (Tell response) none waits begins follows = nothing t (follows.1 ∙ none)
-first scene s t r (Ask pending octets) none waits begins follows =
+first : (scene : Scene) (now : ℕ) (s t : State) (r : Request) (next : Next) → s.1 ≡ None
+    → request_in s.0 ≡ Some r → Begins scene r next → Follows now next s t → AsksForIts t
+first scene now s t r (Tell response) none waits begins follows = nothing t (follows.1 ∙ none)
+first scene now s t r (Ask pending octets) none waits begins follows =
     asked s t r (record { pending = pending; frame = octets }) follows.0 follows.1 waits ([], (scene, begins))
 
-takes_one : (scene : Scene) (s t : State) → TakesOne scene s t → AsksForIts t
-takes_one scene s t (none, inl read) = nothing t read.1
-takes_one scene s t (none, inr (inl wrong)) = nothing t (wrong.4.1 ∙ none)
-takes_one scene s t (none, inr (inr begun)) = first scene s t begun.0 begun.2 none begun.1 begun.3 begun.4
+takes_one : (scene : Scene) (now : ℕ) (s t : State) → TakesOne scene now s t → AsksForIts t
+takes_one scene now s t (none, inl read) = nothing t read.1
+takes_one scene now s t (none, inr (inl wrong)) = nothing t (wrong.4.1 ∙ none)
+takes_one scene now s t (none, inr (inr begun)) = first scene now s t begun.0 begun.2 none begun.1 begun.3 begun.4
 
-takes : (scene : Scene) (s : State) (mids : List State) (t : State) → Takes scene s mids t → AsksForIts s
+takes : (scene : Scene) (now : ℕ) (s : State) (mids : List State) (t : State) → Takes scene now s mids t → AsksForIts s
     → AsksForIts t
-takes scene s [] t is for_its_request = subst AsksForIts is for_its_request
-takes scene s (mid ∷ mids) t is for_its_request = takes_one scene mid t is.1
+takes scene now s [] t is for_its_request = subst AsksForIts is for_its_request
+takes scene now s (mid ∷ mids) t is for_its_request = takes_one scene now mid t is.1
 
 -- ---- once it has answered
 
-behind : (s t : State) (frame : Frame) (r : Request) (old : Asking) (next : Next)
+behind : (now : ℕ) (s t : State) (frame : Frame) (r : Request) (old : Asking) (next : Next)
     → request_in s.0 ≡ Some r → IsAsked r old → GoesOn old.pending.waits frame next
-    → Follows next (s.0, None) t → AsksForIts t
-behind s t frame r old (Tell response) waits is goes follows = nothing t follows.1
-behind s t frame r old (Ask pending octets) waits is goes follows =
+    → Follows now next (s.0, None) t → AsksForIts t
+behind now s t frame r old (Tell response) waits is goes follows = nothing t follows.1
+behind now s t frame r old (Ask pending octets) waits is goes follows =
     asked s t r (record { pending = pending; frame = octets }) follows.0 follows.1 waits
     (frame ∷ is.0, (old, is.1, goes))
 
-given : (s t : State) (frame : Frame) → IsGiven s frame t → AsksForIts s → AsksForIts t
-given s t frame is for_its_request =
+given : (now : ℕ) (s t : State) (frame : Frame) → IsGiven now s frame t → AsksForIts s → AsksForIts t
+given now s t frame is for_its_request =
     let o = for_its_request is.0 is.1 in
-    behind s t frame o.0 is.0 is.2 o.1 o.2 is.3 is.4
+    behind now s t frame o.0 is.0 is.2 o.1 o.2 is.3 is.4
 
 -- ---- all calls
 
 makes : (call : Call) (s t : State) → Makes s call t → AsksForIts s → AsksForIts t
 makes (Came piece) s t is for_its_request = same s t is.1 (ap request_at is.0.stage_is) for_its_request
-makes (Taken scene) s t is for_its_request = takes scene s is.0 t is.1 for_its_request
-makes (Given frame) s t is for_its_request = given s t frame is for_its_request
+makes (Taken scene now) s t is for_its_request = takes scene now s is.0 t is.1 for_its_request
+makes (Given frame) s t is for_its_request = given now s t frame is for_its_request
 makes (Left count) s t is for_its_request = same s t is.1 (ap request_at is.0.stage_is) for_its_request
 
 calls_owe : (s t : State) (calls : List Call) → AsksForIts s → Calls s calls t → AsksForIts t

@@ -12,17 +12,17 @@ use Rattle.ts_http.specs.declared.request.Request.{Request}
 use Rattle.ts_api.specs.Heading.{headers_of, phrase_of}
 use Rattle.ts_api.specs.declared.response.Response.{Response}
 use Rattle.ts_api.specs.declared.scene.Scene.{Scene}
-use Rattle.ts_site.specs.Faces.{Follows, HasBegun, IsDone, IsAtRest, Responds, State, Takes, TakesOne, count_due}
+use Rattle.ts_site.specs.Faces.{Follows, HasBegun, IsDone, IsAtRest, IsTimed, Responds, State, Takes, TakesOne, count_due}
 use Rattle.ts_site.specs.declared.next.Next.{Next}
 use Rattle.ts_site.specs.declared.next.Next.TheVariants.{Tell, Ask}
 use Rattle.ts_site.specs.inside.Stepping.{IsSettled, IsStep, Leads}
 
 -- those behind others
-pub joined : (scene : Scene) (s : State) (front : List State) (mid : State) (back : List State) (t : State)
-    → Takes scene s front mid → Takes scene mid back t → Takes scene s (back ++ front) t
-joined scene s front mid [] t before after = subst (λ (u : State). Takes scene s front u) after before
-joined scene s front mid (one ∷ back) t before after =
-    (joined scene s front mid back one before after.0, after.1)
+pub joined : (scene : Scene) (now : ℕ) (s : State) (front : List State) (mid : State) (back : List State) (t : State)
+    → Takes scene now s front mid → Takes scene now mid back t → Takes scene now s (back ++ front) t
+joined scene now s front mid [] t before after = subst (λ (u : State). Takes scene now s front u) after before
+joined scene now s front mid (one ∷ back) t before after =
+    (joined scene now s front mid back one before after.0, after.1)
 
 -- where so many states have something due, and so many others, that many have in both
 count_append : (back front : List State) → count_due (back ++ front) ≡ count_due back + count_due front
@@ -86,13 +86,13 @@ of_stage : (t : State) → (is_due t.0.stage ≡ true) ⊎ (is_ended t.0 ≡ tru
 of_stage t (inl due) = inl due
 of_stage t (inr ends) = inr (inl ends)
 
-followed : (next : Next) (request : Request) (s t : State) → request_in s.0 ≡ Some request → Follows next s t → IsSettled t
-followed (Tell response) request s t waits follows = of_stage t (answered s.0.stage request s.0 t.0 response waits follows.0)
-followed (Ask pending octets) request s t waits follows = inr (inr (_, follows.1))
+followed : (now : ℕ) (next : Next) (request : Request) (s t : State) → request_in s.0 ≡ Some request → Follows now next s t → IsSettled t
+followed now (Tell response) request s t waits follows = of_stage t (answered s.0.stage request s.0 t.0 response waits follows.0)
+followed now (Ask pending octets) request s t waits follows = inr (inr (_, follows.1))
 
 -- a request that has begun no longer waits, unless the node is asked
-pub settled : (scene : Scene) (s t : State) → HasBegun scene s t → IsSettled t
-settled scene s t begun = followed begun.2 begun.0 s t begun.1 begun.4
+pub settled : (scene : Scene) (now : ℕ) (s t : State) → HasBegun scene now s t → IsSettled t
+settled scene now s t begun = followed now begun.2 begun.0 s t begun.1 begun.4
 
 -- nothing waits where a connection has ended
 no_request : (stage : Stage) → ended_at stage ≡ true → request_at stage ≡ None
@@ -122,26 +122,26 @@ goes (stages.Wrong status head) a b told = absurd told.0
 goes stages.Ended a b told = absurd told.0
 
 -- a read, and behind it the request that waits then, if one does
-pub after_read : {E : Type 0} (result : Result Bool E) (scene : Scene) (s mid t : State)
-    → s.1 ≡ None → HasRead s.0 mid.0 → mid.1 ≡ None → is_due mid.0.stage ≡ false → wrong_in mid.0 ≡ None
-    → IfOk result (λ there. ((there ≡ true) × HasBegun scene mid t)
+pub after_read : {E : Type 0} (result : Result Bool E) (scene : Scene) (now : ℕ) (s mid t : State)
+    → s.1 ≡ None → HasRead s.0 mid.0 → mid.1 ≡ None → IsTimed now s.0 mid.0 → is_due mid.0.stage ≡ false → wrong_in mid.0 ≡ None
+    → IfOk result (λ there. ((there ≡ true) × HasBegun scene now mid t)
     ⊎ ((there ≡ false) × (t ≡ mid) × (request_in mid.0 ≡ None)))
-    → IfOk result (IsStep scene s t)
-after_read (Ok there) scene s mid t none read still due wrong (inl begun) = (
+    → IfOk result (IsStep scene now s t)
+after_read (Ok there) scene now s mid t none read still timed due wrong (inl begun) = (
   mid ∷ s ∷ [],
-  ((refl, (none, inl (read, still))), (still, inr (inr begun.1))),
+  ((refl, (none, inl (read, still, timed))), (still, inr (inr begun.1))),
   omega arith,
   omega arith,
-  subst (λ (more : Bool). Leads more (mid ∷ s ∷ []) s t) (sym begun.0) (settled scene mid t begun.1, unended s.0 mid.0 begun.1.0 read begun.1.1),
+  subst (λ (more : Bool). Leads more (mid ∷ s ∷ []) s t) (sym begun.0) (settled scene now mid t begun.1, unended s.0 mid.0 begun.1.0 read begun.1.1),
 )
-after_read (Ok there) scene s mid t none read still due wrong (inr same) = (
+after_read (Ok there) scene now s mid t none read still timed due wrong (inr same) = (
   s ∷ [],
-  (refl, subst (λ (u : State). TakesOne scene s u) (sym same.1) (none, inl (read, still))),
+  (refl, subst (λ (u : State). TakesOne scene now s u) (sym same.1) (none, inl (read, still, timed))),
   omega arith,
   omega arith,
   subst (λ (more : Bool). Leads more (s ∷ []) s t) (sym same.0) (inr (ap (λ (u : State). is_ended u.0) same.1 ∙ ended mid.0.stage due wrong same.2)),
 )
-after_read (Err e) scene s mid t none read still due wrong begun = tt
+after_read (Err e) scene now s mid t none read still timed due wrong begun = tt
 
 -- ---- how many steps there were
 

@@ -9,18 +9,18 @@ use Rattle.ts_site.specs.Requests.{Begins, GoesOn}
 use Rattle.ts_site.specs.declared.face.Asking.{Asking}
 use Rattle.ts_site.specs.declared.next.Next.TheVariants.{Ask}
 
--- ---- calls
+-- ---- calls, some of them at a moment of the node's clock
 
 pub data Call : Type 0 where
   Came : List ℕ → Call
-  Taken : Scene → Call
-  Given : Frame → Call
+  Taken : Scene → ℕ → Call
+  Given : Frame → ℕ → Call
   Left : ℕ → Call
 
 abbrev pub Makes : State → Call → State → Type 0
 Makes s (Came piece) t = HasCome s.0 t.0 piece × (t.1 ≡ s.1)
-Makes s (Taken scene) t = (mids : List State) × Takes scene s mids t
-Makes s (Given frame) t = IsGiven s frame t
+Makes s (Taken scene now) t = (mids : List State) × Takes scene now s mids t
+Makes s (Given frame now) t = IsGiven now s frame t
 Makes s (Left count) t = HasLeft s.0 t.0 (take count s.0.out) × (t.1 ≡ s.1)
 
 -- one after another

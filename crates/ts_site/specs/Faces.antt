@@ -3,6 +3,7 @@ use Rattle.std.specs.Prelude.{◌≡◌, ◌==◌, ◌⊎◌, ◌≤◌, ◌+◌
 use Rattle.std.specs.Prelude.{Option, Some, None, codes, if◌then◌else◌, length, nat_lt}
 use Rattle.ts_http.specs.Moves.{HasAnswered, HasRead, is_ended, request_in, wrong_in}
 use Rattle.ts_http.specs.Reading.{Tells, is_due}
+use Rattle.ts_http.specs.Times.{enter_phase, phase_in}
 use Rattle.ts_http.specs.declared.connection.Connection.{Connection}
 use Rattle.ts_http.specs.declared.reading.Progress.TheVariants.{Waits}
 use Rattle.ts_http.specs.declared.request.Request.{Request}
@@ -28,25 +29,25 @@ State = Connection × Option Asking
 abbrev pub state_of : Face → State
 state_of face = (face.connection, face.asking)
 
--- since when a connection does what it does: as before, or from now on
-abbrev pub IsTimed : ℕ → Face → Face → Type 0
-IsTimed now a b = (b.connection.times ≡ a.connection.times)
-    ⊎ (b.connection.times.since ≡ now)
+-- since when a connection does what it does: from now on, where that is another thing than before
+abbrev pub IsTimed : ℕ → Connection → Connection → Type 0
+IsTimed now a b = b.times ≡ enter_phase (phase_in b) now a.times
 
 -- a response is written behind the others, to what waits for one
 abbrev pub Responds : Connection → Connection → Response → Type 0
 Responds a b r = HasAnswered a b r.status (phrase_of r.status) (headers_of r) r.body.items
 
 -- what comes next: a response is written; or the node is to be asked, and nothing is written
-abbrev pub Follows : Next → State → State → Type 0
-Follows (Tell response) s t = Responds s.0 t.0 response × (t.1 ≡ s.1)
-Follows (Ask pending octets) s t =
+abbrev pub Follows : ℕ → Next → State → State → Type 0
+Follows now (Tell response) s t =
+    Responds s.0 t.0 response × (t.1 ≡ s.1) × IsTimed now s.0 t.0
+Follows now (Ask pending octets) s t =
     (t.0 ≡ s.0) × (t.1 ≡ Some (record { pending = pending; frame = octets }))
 
 -- the node has answered by this frame what it was asked
-abbrev pub IsGiven : State → Frame → State → Type 0
-IsGiven s frame t = (asking : Asking) × (s.1 ≡ Some asking)
-    × (next : Next) × GoesOn asking.pending.waits frame next × Follows next (s.0, None) t
+abbrev pub IsGiven : ℕ → State → Frame → State → Type 0
+IsGiven now s frame t = (asking : Asking) × (s.1 ≡ Some asking)
+    × (next : Next) × GoesOn asking.pending.waits frame next × Follows now next (s.0, None) t
 
 -- ---- what a connection takes before the node is asked
 
@@ -60,25 +61,26 @@ wrong_words status =
     else codes "this is no request of HTTP/1.1")))
 
 -- what came is no request that is taken, and is told so
-abbrev pub IsWrong : State → State → Type 0
-IsWrong s t = (status : ℕ) × (wrong_in s.0 ≡ Some status)
+abbrev pub IsWrong : ℕ → State → State → Type 0
+IsWrong now s t = (status : ℕ) × (wrong_in s.0 ≡ Some status)
     × (response : Response) × IsLine status (wrong_words status) response
-    × Follows (Tell response) s t
+    × Follows now (Tell response) s t
 
 -- the request that waits comes to something
-abbrev pub HasBegun : Scene → State → State → Type 0
-HasBegun scene s t = (request : Request) × (request_in s.0 ≡ Some request)
-    × (next : Next) × Begins scene request next × Follows next s t
+abbrev pub HasBegun : Scene → ℕ → State → State → Type 0
+HasBegun scene now s t = (request : Request) × (request_in s.0 ≡ Some request)
+    × (next : Next) × Begins scene request next × Follows now next s t
 
 -- one step, while the node is not asked: octets that came are read, or what they are is answered
-abbrev pub TakesOne : Scene → State → State → Type 0
-TakesOne scene s t = (s.1 ≡ None)
-    × ((HasRead s.0 t.0 × (t.1 ≡ None)) ⊎ IsWrong s t ⊎ HasBegun scene s t)
+abbrev pub TakesOne : Scene → ℕ → State → State → Type 0
+TakesOne scene now s t = (s.1 ≡ None)
+    × ((HasRead s.0 t.0 × (t.1 ≡ None) × IsTimed now s.0 t.0) ⊎ IsWrong now s t
+    ⊎ HasBegun scene now s t)
 
 -- one step after another; the last one stands first
-abbrev pub Takes : Scene → State → List State → State → Type 0
-Takes scene s [] t = s ≡ t
-Takes scene s (mid ∷ mids) t = Takes scene s mids mid × TakesOne scene mid t
+abbrev pub Takes : Scene → ℕ → State → List State → State → Type 0
+Takes scene now s [] t = s ≡ t
+Takes scene now s (mid ∷ mids) t = Takes scene now s mids mid × TakesOne scene now mid t
 
 -- the last step read, and less had come than was due
 abbrev pub IsStarved : List State → State → Type 0

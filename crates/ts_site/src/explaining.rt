@@ -23,8 +23,8 @@ use ts_wire::Frame;
 
 /// What stands below a verdict on the chain as it was sent.
 const AS_SENT: &str =
-    "No chain to the first certificate is valid. This is what the certificates come to as they \
-    were sent, up to the first whose issuer is a trust anchor of the store.";
+    "The search found no valid chain to the first certificate. This is what the certificates come \
+    to as they were sent, up to the first whose issuer is a trust anchor of the store.";
 
 /// What stands below the answer of a search, where there is no question about the chain.
 const NO_ANCHOR: &str =

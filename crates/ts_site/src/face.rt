@@ -8,7 +8,7 @@ ghost use Rattle.ts_site.specs.Account.{IsBegun};
 ghost use Rattle.ts_api.specs.Response.{IsLine};
 ghost use Rattle.ts_api.specs.declared.response.Response.{Response};
 ghost use Rattle.ts_site.specs.Faces.{Follows, HasBegun, IsDone, IsGiven, Responds, State};
-ghost use Rattle.ts_site.specs.Faces.{IsTimed, Takes, has_room, state_of, wrong_words};
+ghost use Rattle.ts_site.specs.Faces.{Takes, has_room, state_of, wrong_words};
 ghost use Rattle.ts_site.specs.inside.Stepping.{IsStep};
 ghost use Rattle.ts_site.specs.declared.next.Next.TheVariants.{Tell};
 
@@ -175,7 +175,7 @@ impl Face {
     fn refuse(&mut self, status: u16, board: &mut Board, now: u64) -> Result<(), HttpFault>
         ensures { OnOk result ((response : Response)
             × IsLine status (wrong_words status) response
-            × Follows (Tell response) (state_of self.old) (state_of self.new)) }
+            × Follows now (Tell response) (state_of self.old) (state_of self.new)) }
     {
         let response = Response::line(self.alloc, status, words_of(status))?;
         self.respond(&response, Route::None, board, now)
@@ -191,9 +191,8 @@ impl Face {
 
     /// Writes a response, or asks the node.
     fn follow(&mut self, next: Next, board: &mut Board, now: u64) -> Result<(), HttpFault>
-        ensures follows { OnOk result (Follows next (state_of self.old) (state_of self.new)) }
+        ensures follows { OnOk result (Follows now next (state_of self.old) (state_of self.new)) }
         ensures paused { self.new.paused ≡ self.old.paused }
-        ensures times { OnOk result (IsTimed now self.old self.new) }
     {
         match next {
             Next::Tell(response) => {
@@ -215,7 +214,7 @@ impl Face {
         now: u64,
     ) -> Result<bool, HttpFault>
         ensures { IfOk result (λ there. ((there ≡ true)
-            × HasBegun scene.entry.now (state_of self.old) (state_of self.new))
+            × HasBegun scene.entry.now now (state_of self.old) (state_of self.new))
             ⊎ ((there ≡ false) × (state_of self.new ≡ state_of self.old)
             × (request_in self.old.connection ≡ None))) }
     {
@@ -230,7 +229,7 @@ impl Face {
     /// The next step, while the node is not asked. Whether there may be another.
     fn step(&mut self, scene: &Scene<'_>, board: &mut Board, now: u64) -> Result<bool, HttpFault>
         requires { self.old.asking ≡ None }
-        ensures { IfOk result (IsStep scene.entry.now (state_of self.old) (state_of self.new)) }
+        ensures { IfOk result (IsStep scene.entry.now now (state_of self.old) (state_of self.new)) }
     {
         match self.connection.read(now)? {
             Progress::Goes => Ok(true),
@@ -253,7 +252,7 @@ impl Face {
     /// Memory that is refused. The connection can't go on then.
     pub fn take(&mut self, scene: &Scene<'_>, board: &mut Board, now: u64) -> Result<(), HttpFault>
         ensures { OnOk result ((mids : List State)
-            × Takes scene.entry.now (state_of self.old) mids (state_of self.new)
+            × Takes scene.entry.now now (state_of self.old) mids (state_of self.new)
             × IsDone mids (state_of self.new) self.new.paused) }
     {
         self.paused = false;
@@ -279,9 +278,9 @@ impl Face {
     ///
     /// Memory that is refused; `Write` where nothing was asked. The connection can't go on then.
     pub fn give(&mut self, frame: &Frame, board: &mut Board, now: u64) -> Result<(), HttpFault>
-        ensures given { OnOk result (IsGiven (state_of self.old) frame.now (state_of self.new)) }
+        ensures given { OnOk result
+            (IsGiven now (state_of self.old) frame.now (state_of self.new)) }
         ensures paused { self.new.paused ≡ self.old.paused }
-        ensures times { OnOk result (IsTimed now self.old self.new) }
     {
         let Some(asking) = self.asking.take() else {
             return Err(HttpFault::Write);

@@ -1,5 +1,5 @@
 -- What one step of `Face::take` does.
-use Rattle.std.specs.Prelude.{◌≡◌, ◌≤◌, ◌⊎◌, Bool, true, false, List, [], ◌∷◌, Some, length}
+use Rattle.std.specs.Prelude.{◌≡◌, ℕ, ◌≤◌, ◌⊎◌, Bool, true, false, List, [], ◌∷◌, Some, length}
 use Rattle.ts_http.specs.Moves.{is_ended}
 use Rattle.ts_http.specs.Reading.{is_due}
 use Rattle.ts_api.specs.declared.scene.Scene.{Scene}
@@ -17,6 +17,6 @@ Leads true mids s t = IsSettled t × (is_ended s.0 ≡ false)
 Leads false mids s t = IsAtRest mids t
 
 -- something was read or answered, what was due among it; and whether there may be another step
-abbrev pub IsStep : Scene → State → State → Bool → Type 0
-IsStep scene s t more = (mids : List State) × Takes scene s mids t × (1 ≤ length mids)
+abbrev pub IsStep : Scene → ℕ → State → State → Bool → Type 0
+IsStep scene now s t more = (mids : List State) × Takes scene now s mids t × (1 ≤ length mids)
     × (count_due (s ∷ []) ≤ count_due mids) × Leads more mids s t

@@ -15,5 +15,5 @@ returns-clause-given c =
       was,
       c.in_ok-next.next,
       c.in_ok-next.ensures,
-      subst (λ (o : Option Asking). Follows c.in_ok-next.next (c.args.self.now.connection, o) (state_of c.follow.new.self)) none follows,
+      subst (λ (o : Option Asking). Follows c.args.now c.in_ok-next.next (c.args.self.now.connection, o) (state_of c.follow.new.self)) none follows,
     )) c.follow.ensures.follows

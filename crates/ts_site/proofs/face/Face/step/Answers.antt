@@ -11,7 +11,7 @@ returns-in-Goes c =
     let a = c.args.self.now.connection in
     let told = subst (λ (p : Progress). Tells a.stage a c.read.new.self p) c.in-Goes.is c.in_ok-read.ensures.told in (
       state_of c.args.self.now ∷ [],
-      (refl, (c.requires, inl (c.in_ok-read.ensures.read, c.requires))),
+      (refl, (c.requires, inl (c.in_ok-read.ensures.read, c.requires, c.in_ok-read.ensures.times))),
       omega arith,
       omega arith,
       (inl told.1, goes a.stage a c.read.new.self told),
@@ -21,14 +21,14 @@ pub returns-in-Waits : goal.returns-in-Waits
 returns-in-Waits c =
     let a = c.args.self.now.connection in
     let waits = subst (λ (p : Progress). Tells a.stage a c.read.new.self p) c.in-Waits.is c.in_ok-read.ensures.told in
-    (state_of c.args.self.now ∷ [], (refl, (c.requires, inl (c.in_ok-read.ensures.read, c.requires))), omega arith, omega arith, inl waits)
+    (state_of c.args.self.now ∷ [], (refl, (c.requires, inl (c.in_ok-read.ensures.read, c.requires, c.in_ok-read.ensures.times))), omega arith, omega arith, inl waits)
 
 pub returns-in_ok-refuse-in-Some : goal.returns-in_ok-refuse-in-Some
 returns-in_ok-refuse-in-Some c =
     let s = state_of c.args.self.now in
     let mid : State = (c.read.new.self, c.args.self.now.asking) in
     let told = c.in_ok-refuse-in-Some.ensures in
-    let one : TakesOne c.args.scene.now s mid = (c.requires, inl (c.in_ok-read.ensures.read, c.requires)) in (
+    let one : TakesOne c.args.scene.now c.args.now s mid = (c.requires, inl (c.in_ok-read.ensures.read, c.requires, c.in_ok-read.ensures.times)) in (
       mid ∷ s ∷ [],
       ((refl, one), (c.requires, inr (inl (c.in-Some.status, sym c.in-Some.ensures, told.0, told.1, told.2)))),
       omega arith,
@@ -42,4 +42,4 @@ returns-in-None c =
     let a = c.args.self.now.connection in
     let mid : State = (c.read.new.self, c.args.self.now.asking) in
     let due = subst (λ (p : Progress). Tells a.stage a c.read.new.self p) c.in-Stops.is c.in_ok-read.ensures.told in
-    after_read c.take_request.result c.args.scene.now s mid (state_of c.take_request.new.self) c.requires c.in_ok-read.ensures.read c.requires due (sym c.in-None.ensures) c.take_request.ensures
+    after_read c.take_request.result c.args.scene.now c.args.now s mid (state_of c.take_request.new.self) c.requires c.in_ok-read.ensures.read c.requires c.in_ok-read.ensures.times due (sym c.in-None.ensures) c.take_request.ensures

@@ -18,7 +18,7 @@ returns-then-not-branch c =
     let step = c.in_ok-step.ensures in
     let last : c.in_ok-step.field-0 ≡ false = search rules in (
       step.0 ++ before.0,
-      joined c.args.scene.now (state_of c.args.self.now) before.0 s step.0 t before.1 step.1,
+      joined c.args.scene.now c.args.now (state_of c.args.self.now) before.0 s step.0 t before.1 step.1,
       inr (inr (inl (idle_behind before.0 step.0 t step.2 (subst (λ (more : Bool). Leads more step.0 s t) last step.4)))),
     )
 
@@ -32,7 +32,7 @@ loop-step-preserved c =
     let none : s.1 ≡ None = search rules in
     let leads = subst (λ (more : Bool). Leads more step.0 s t) more step.4 in (
       step.0 ++ before.0,
-      joined c.args.scene.now (state_of c.args.self.now) before.0 s step.0 t before.1 step.1,
+      joined c.args.scene.now c.args.now (state_of c.args.self.now) before.0 s step.0 t before.1 step.1,
       counted c.loop-step._step s before.0 step.0 before.2 before.3 none leads.1 step.3,
       inr leads.0,
     )
