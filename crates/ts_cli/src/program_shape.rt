@@ -18,7 +18,7 @@ use clap::Command;
 use std::alloc::{AllocError, Global};
 
 /// The version that `trustd --version` prints. Nodes of a group run one version.
-pub const VERSION: &str = "0.12.0";
+pub const VERSION: &str = "0.13.0";
 
 /// The record of a node is made.
 fn format<'a>(alloc: Global) -> Making<Command<'a>>
