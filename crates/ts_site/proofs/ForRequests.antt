@@ -73,7 +73,7 @@ given now s t frame is for_its_request =
 makes : (call : Call) (s t : State) → Makes s call t → AsksForIts s → AsksForIts t
 makes (Came piece) s t is for_its_request = same s t is.1 (ap request_at is.0.stage_is) for_its_request
 makes (Taken scene now) s t is for_its_request = takes scene now s is.0 t is.1 for_its_request
-makes (Given frame) s t is for_its_request = given now s t frame is for_its_request
+makes (Given frame now) s t is for_its_request = given now s t frame is for_its_request
 makes (Left count) s t is for_its_request = same s t is.1 (ap request_at is.0.stage_is) for_its_request
 
 calls_owe : (s t : State) (calls : List Call) → AsksForIts s → Calls s calls t → AsksForIts t
