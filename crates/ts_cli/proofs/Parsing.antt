@@ -9,30 +9,30 @@ use Rattle.ts_cli.specs.Shapes.{carry, verify, with_limits, with_inputs, command
 use Rattle.ts_cli.specs.Shapes.{questions, chain, search, with_terms, with_flags, submit}
 use Rattle.ts_cli.specs.Shapes.{with_verdict, load, with_group, with_access, with_key, keygen}
 use Rattle.ts_cli.specs.Shapes.{with_listings, with_listing, store, log, diff, with_material}
-use Rattle.ts_cli.specs.Shapes.{sync}
+use Rattle.ts_cli.specs.Shapes.{sync, replay}
 
 pub lab_is_taken : (name : Text) → takes program (name ∷ codes "lab" ∷ []) ≡ true
 unfolding clap_on_literals program node_tasks with_upkeep lab format migrate serve submit
     with_verdict carry verify with_group with_access with_key keygen with_limits with_inputs
-    with_listings with_listing store log diff with_material sync
+    with_listings with_listing store log diff with_material sync replay
 lab_is_taken name = refl
 
 pub lab_is_given : (name : Text) → option_map (λ p. p.0) (subcommand_of program (name ∷ codes "lab" ∷ [])) ≡ Some (codes "lab")
 unfolding clap_on_literals program node_tasks with_upkeep lab format migrate serve submit
     with_verdict carry verify with_group with_access with_key keygen with_limits with_inputs
-    with_listings with_listing store log diff with_material sync
+    with_listings with_listing store log diff with_material sync replay
 lab_is_given name = refl
 
 pub program_is_free : is_simple_and_free program ≡ true
 unfolding clap_on_literals program node_tasks with_upkeep lab format migrate serve submit
     with_verdict carry verify with_group with_access with_key keygen with_limits with_inputs
-    with_listings with_listing store log diff with_material sync
+    with_listings with_listing store log diff with_material sync replay
 program_is_free = refl
 
 pub program_is_simple : is_simple program ≡ true
 unfolding clap_on_literals program node_tasks with_upkeep lab format migrate serve submit
     with_verdict carry verify with_group with_access with_key keygen with_limits with_inputs
-    with_listings with_listing store log diff with_material sync
+    with_listings with_listing store log diff with_material sync replay
 program_is_simple = refl
 
 pub commands_are_free : is_simple_and_free commands ≡ true

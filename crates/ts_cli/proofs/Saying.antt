@@ -11,6 +11,7 @@ use Rattle.ts_cli.specs.declared.task.Task.TheVariants.{Lab, Format, Migrate, Se
 use Rattle.ts_cli.specs.declared.task.Task.TheVariants.{Ask, Carry, Status, Identify, CatchUp}
 use Rattle.ts_cli.specs.declared.task.Task.TheVariants.{Compact, Command, Question, Id, Show}
 use Rattle.ts_cli.specs.declared.task.Task.TheVariants.{Keygen, Store, Log, Diff, Sync}
+use Rattle.ts_cli.specs.declared.task.Task.TheVariants.{Replay}
 
 pub says_any : (own : List Row) (name : Text) (rows : List Row) (task : Task) → SaysTask name rows task → SaysAny own name rows task
 says_any own name rows (Command words) says = absurd says
@@ -31,6 +32,7 @@ says_any own name rows (Store reach k json) says = says
 says_any own name rows (Log reach from k json) says = says
 says_any own name rows (Diff reach old new) says = says
 says_any own name rows (Sync words) says = says
+says_any own name rows (Replay file reach wait) says = says
 says_any own name rows (Keygen role) says = says
 says_any own name rows (Id file) says = says
 says_any own name rows (Show file) says = says
@@ -79,6 +81,8 @@ in_range own name rows (Log reach from k json) says = tt
 in_range own name rows (Diff reach old new) says = tt
 in_range own name rows (Sync words) says =
     to-most (first_of (codes "wait") rows) 1 3600 10 words.wait says.1.wait_is (omega arith)
+in_range own name rows (Replay file reach wait) says =
+    to-most (first_of (codes "wait") rows) 1 3600 10 wait says.1 (omega arith)
 in_range own name rows (Keygen role) says = tt
 in_range own name rows (Id file) says = tt
 in_range own name rows (Show file) says = tt

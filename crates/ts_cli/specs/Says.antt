@@ -30,6 +30,7 @@ use Rattle.ts_cli.specs.declared.task.Task.TheVariants.{Ask, Carry, Status, Catc
 use Rattle.ts_cli.specs.declared.task.Task.TheVariants.{Command}
 use Rattle.ts_cli.specs.declared.task.Task.TheVariants.{Question, Id, Show, Keygen, Identify}
 use Rattle.ts_cli.specs.declared.task.Task.TheVariants.{Store, Log, Diff, Sync}
+use Rattle.ts_cli.specs.declared.task.Task.TheVariants.{Replay}
 
 pub record IsFormat (name : Text) (rows : List Row) (file : Text)
     (id nodes group : ℕ) : Type 0 where
@@ -44,7 +45,7 @@ pub record IsMigration (name : Text) (rows : List Row) (old new : Text) : Type 0
   pub old_is : IsAt (codes "old") rows old
   pub new_is : IsAt (codes "new") rows new
 
--- `submit` and `ask`, by their names
+-- `submit`, `ask` and `replay`, by their names
 pub record IsSending (name expected : Text) (rows : List Row) (reach : Reach)
     (file : Text) : Type 0 where
   pub name_is : name ≡ expected
@@ -216,6 +217,9 @@ SaysTask name rows (Log reach from k json) =
     × IsNumberOr (codes "from") rows 1 1000000 1 from
 SaysTask name rows (Diff reach old new) = IsDiff name rows reach old new
 SaysTask name rows (Sync words) = (name ≡ codes "sync") × IsSync rows words
+SaysTask name rows (Replay file reach wait) =
+    IsSending name (codes "replay") rows reach (string_bytes file)
+    × IsNumberOr (codes "wait") rows 1 3600 10 wait
 SaysTask name rows (Keygen role) = (name ≡ codes "keygen") × IsRole rows role
 SaysTask name rows (Id file) = IsReading name (codes "id") rows (string_bytes file)
 SaysTask name rows (Show file) = IsReading name (codes "show") rows (string_bytes file)
@@ -244,6 +248,7 @@ SaysAny own name rows (Store reach k json) = SaysTask name rows (Store reach k j
 SaysAny own name rows (Log reach from k json) = SaysTask name rows (Log reach from k json)
 SaysAny own name rows (Diff reach old new) = SaysTask name rows (Diff reach old new)
 SaysAny own name rows (Sync words) = SaysTask name rows (Sync words)
+SaysAny own name rows (Replay file reach wait) = SaysTask name rows (Replay file reach wait)
 SaysAny own name rows (Keygen role) = SaysTask name rows (Keygen role)
 SaysAny own name rows (Id file) = SaysTask name rows (Id file)
 SaysAny own name rows (Show file) = SaysTask name rows (Show file)
@@ -280,6 +285,7 @@ IsInRange (Store reach k json) = Unit {0}
 IsInRange (Log reach from k json) = Unit {0}
 IsInRange (Diff reach old new) = Unit {0}
 IsInRange (Sync words) = words.wait ≤ 3600
+IsInRange (Replay file reach wait) = wait ≤ 3600
 IsInRange (Keygen role) = Unit {0}
 IsInRange (Id file) = Unit {0}
 IsInRange (Show file) = Unit {0}

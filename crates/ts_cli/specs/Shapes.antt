@@ -205,11 +205,16 @@ unfoldable pub sync : Shape
 sync = with_arguments (with_material (reaching (codes "sync")))
     (flag (codes "dry-run") ∷ option (codes "wait") ∷ [])
 
+-- a record, an address, and how long to wait
+unfoldable pub replay : Shape
+replay = with_argument (with_key (leaf (codes "replay")
+    (word (codes "file") ∷ word (codes "address") ∷ []))) (option (codes "wait"))
+
 unfoldable pub program : App
-program = among (with_listings (with_upkeep (with_tasks node_tasks
+program = with_tasks (with_listings (with_upkeep (with_tasks node_tasks
     (verify ∷ subcommand_shape (codes "command") ∷ subcommand_shape (codes "question") ∷ reading
     (codes "id")
-    ∷ reading (codes "show") ∷ [])))) sync
+    ∷ reading (codes "show") ∷ [])))) (sync ∷ replay ∷ [])
 
 -- ---- `trustd command`
 

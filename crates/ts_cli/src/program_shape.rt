@@ -147,6 +147,23 @@ fn submit<'a>(alloc: Global) -> Making<Command<'a>>
     with(command, option(alloc, "wait", "SECONDS", help))
 }
 
+/// The log of a record is brought to another group.
+fn replay<'a>(alloc: Global) -> Making<Command<'a>>
+    ensures shape { IfOk result (IsShape shapes.replay) }
+    ensures local { IfOk result IsLocal }
+{
+    let about = "Submits the commands of a record to a node of a new group, in order";
+    let record = "The record of a node that is not served, or a copy";
+    let command = with(
+        leaf(alloc, "replay", about),
+        word(alloc, "file", "FILE", record),
+    );
+    let address = word(alloc, "address", "ADDR", "HOST:PORT of the node");
+    let command = with_key(alloc, with(command, address));
+    let help = "Wait so many seconds for each command, 1 to 3600; 10 if not given";
+    with(command, option(alloc, "wait", "SECONDS", help))
+}
+
 /// A command with an address.
 pub(crate) fn reaching<'a>(alloc: Global, name: &'a str, about: &'a str) -> Making<Command<'a>>
     ensures shape { IfOk result (IsShape (shapes.reaching name.entry.now)) }
@@ -237,5 +254,6 @@ pub fn program<'a>(alloc: Global) -> Result<Command<'a>, AllocError>
         reading(alloc, "show", "Prints what a file holds", "FILE", what),
     );
     let program = with_listings(alloc, with_upkeep(alloc, program));
-    command_of(among(program, sync(alloc)))
+    let program = among(program, sync(alloc));
+    command_of(among(program, replay(alloc)))
 }

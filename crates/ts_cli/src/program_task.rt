@@ -59,6 +59,17 @@ fn submit(alloc: Global, matches: &ArgMatches<'_>) -> Result<Task, CommandFault>
     })
 }
 
+/// The task that `trustd replay` asks for. It waits for 10 seconds where no time is given.
+fn replay(alloc: Global, matches: &ArgMatches<'_>) -> Result<Task, CommandFault>
+    ensures { IfOk result (SaysTask (codes "replay") (rows_of (found_of matches.now))) }
+{
+    Ok(Task::Replay {
+        file: string_at(alloc, matches, "file")?,
+        reach: reach_at(alloc, matches)?,
+        wait: number_or(matches, "wait", 1, 3600, 10, WrongValue::Wait)?,
+    })
+}
+
 /// The task that `trustd ask` asks for.
 fn ask(alloc: Global, matches: &ArgMatches<'_>) -> Result<Task, CommandFault>
     ensures { IfOk result (SaysTask (codes "ask") (rows_of (found_of matches.now))) }
@@ -121,6 +132,7 @@ pub(crate) fn task_named(
         "log" => log(alloc, matches),
         "diff" => diff(alloc, matches),
         "sync" => Ok(Task::Sync(sync_words(alloc, matches)?)),
+        "replay" => replay(alloc, matches),
         "keygen" => Ok(Task::Keygen {
             role: role_at(matches)?,
         }),

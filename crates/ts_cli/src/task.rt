@@ -113,6 +113,15 @@ pub enum Task {
     },
     /// Make a store hold exactly what files hold.
     Sync(SyncWords),
+    /// Submit the commands of a record to a node of another group, each at its position.
+    Replay {
+        /// The record.
+        file: String,
+        /// The node, and the key that it is shown.
+        reach: Reach,
+        /// For how many seconds to wait until each command is chosen.
+        wait: u32,
+    },
     /// Print a line of a file of keys, with a new secret.
     Keygen {
         /// What its holder is to a node.

@@ -19,6 +19,7 @@ mod explaining;
 mod keyed;
 mod listing;
 mod pausing;
+mod replaying;
 mod requests;
 mod running;
 mod syncing;

@@ -6,6 +6,7 @@ ghost use Rattle.ts_exchange.specs.declared.ending.Ending.TheVariants.{Well};
 ghost use Rattle.ts_exchange.specs.declared.walk.Rows.TheVariants.{Log, Store};
 
 use crate::listing::{print_diff, print_rows};
+use crate::replaying::replay_record;
 use crate::requests::{ask_file, carry_messages, submit_file};
 use crate::syncing::sync_store;
 use crate::upkeep::{print_state, tend_server};
@@ -96,6 +97,7 @@ fn run_other<R: AllocGlobal + Files + Net + Clock + RandomSource + Print + Eprin
         Task::Format { .. } | Task::Migrate { .. } | Task::Serve(_) => Ok(()),
         Task::Keygen { .. } | Task::Command(_) | Task::Question(_) => Ok(()),
         Task::Id { .. } | Task::Show { .. } => Ok(()),
+        Task::Replay { file, reach, wait } => replay_record(rt, reach, file.as_str(), *wait),
         Task::Carry { addresses, rounds } => carry_messages(rt, addresses, *rounds),
         Task::Status { reach } => print_state(rt, reach),
         Task::Identify { reach } => tend_server(rt, reach, Upkeep::Identify),

@@ -1,9 +1,9 @@
 //! The files of a node's record.
 
-ghost use Rattle.std.specs.Prelude.{◌≤◌};
+ghost use Rattle.std.specs.Prelude.{◌≤◌, IfOk, length};
 
 use crate::fault::TaskFault;
-use crate::files::{fault_of, second};
+use crate::files::{MAX_SHOWN, fault_of, read_within, second};
 use crate::locking::RecordLock;
 use std::alloc::Global;
 use std::fs::File;
@@ -39,6 +39,29 @@ pub fn open_disks<R: Files + Eprint>(
     let a = open_disk(rt, alloc, path)?;
     let b = open_disk(rt, alloc, other.as_str())?;
     Ok((a, b))
+}
+
+/// The octets of the two files of a record, neither of which is written. Where the second can't be
+/// read it is taken for an empty one, as of a record of version 1, and standard error says why.
+///
+/// # Errors
+///
+/// Those of the first file; `TooLong` above 4 GiB; `Memory`.
+pub fn read_record<R: Files + Eprint>(
+    rt: &R,
+    alloc: Global,
+    path: &str,
+) -> Result<(Vec<u8>, Vec<u8>), TaskFault>
+    ensures short { IfOk result (λ files. (length files.0.items ≤ 4294967296)
+        × (length files.1.items ≤ 4294967296)) }
+{
+    let first = read_within(rt, alloc, path, MAX_SHOWN)?;
+    let other = second(alloc, path)?;
+    match read_within(rt, alloc, other.as_str(), MAX_SHOWN) {
+        Ok(octets) => Ok((first, octets)),
+        Err(TaskFault::File) => Ok((first, Vec::new(alloc))),
+        Err(fault) => Err(fault),
+    }
 }
 
 /// A disk on a file that holds no octets, which is made where it is missing.

@@ -27,6 +27,8 @@ pub enum TaskFault {
     Clock,
     /// A command was submitted, and is not known to be chosen.
     Unknown,
+    /// A node has another command at a position of the record, or none.
+    OtherLog,
     /// A file is not one whole command or question, or holds no certificate or CRL.
     Field,
     /// A CRL is not to be loaded: its issuer's key did not sign it, or it is not current.
@@ -65,33 +67,42 @@ pub enum TaskFault {
 /// `TableLine(3)`, `Kind`.
 impl fmt::Display for TaskFault {
     fn fmt<W: fmt::Write>(&self, f: &mut fmt::Formatter<W>) -> fmt::Result {
-        let name = match self {
-            TaskFault::Memory => "Memory",
-            TaskFault::File => "File",
-            TaskFault::Busy => "Busy",
-            TaskFault::Clock => "Clock",
-            TaskFault::Unknown => "Unknown",
-            TaskFault::Field => "Field",
-            TaskFault::BadCrl => "BadCrl",
-            TaskFault::TooLong => "TooLong",
-            TaskFault::OutOfLimits => "OutOfLimits",
-            TaskFault::TableLine(number) => return write!(f, "TableLine({number})"),
-            TaskFault::KeyLine(number) => return write!(f, "KeyLine({number})"),
-            TaskFault::Unprotected => "Unprotected",
-            TaskFault::Random => "Random",
-            TaskFault::Record(ts_record::RecordFault::Damaged(offset)) => return write!(
-                f,
-                "Damaged({offset})"
-            ),
-            TaskFault::Record(fault) => record_name(*fault),
-            TaskFault::Read => "Read",
-            TaskFault::Write | TaskFault::Closed => "Write",
-            TaskFault::ReadLimit => "ReadLimit",
-            TaskFault::Cut => "Cut",
-            TaskFault::Node(fault) => fault_name(*fault),
-            TaskFault::Frame(fault) => frame_name(*fault),
-        };
-        write!(f, "{name}")
+        let name = name_of(*self);
+        match self {
+            TaskFault::TableLine(number) => write!(f, "{name}({number})"),
+            TaskFault::KeyLine(number) => write!(f, "{name}({number})"),
+            TaskFault::Record(ts_record::RecordFault::Damaged(offset)) => {
+                write!(f, "{name}({offset})")
+            }
+            _ => write!(f, "{name}"),
+        }
+    }
+}
+
+/// The name of the reason, without a number.
+fn name_of(fault: TaskFault) -> &'static str {
+    match fault {
+        TaskFault::Memory => "Memory",
+        TaskFault::File => "File",
+        TaskFault::Busy => "Busy",
+        TaskFault::Clock => "Clock",
+        TaskFault::Unknown => "Unknown",
+        TaskFault::OtherLog => "OtherLog",
+        TaskFault::Field => "Field",
+        TaskFault::BadCrl => "BadCrl",
+        TaskFault::TooLong => "TooLong",
+        TaskFault::OutOfLimits => "OutOfLimits",
+        TaskFault::TableLine(_) => "TableLine",
+        TaskFault::KeyLine(_) => "KeyLine",
+        TaskFault::Unprotected => "Unprotected",
+        TaskFault::Random => "Random",
+        TaskFault::Record(fault) => record_name(fault),
+        TaskFault::Read => "Read",
+        TaskFault::Write | TaskFault::Closed => "Write",
+        TaskFault::ReadLimit => "ReadLimit",
+        TaskFault::Cut => "Cut",
+        TaskFault::Node(fault) => fault_name(fault),
+        TaskFault::Frame(fault) => frame_name(fault),
     }
 }
 

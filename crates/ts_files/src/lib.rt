@@ -11,8 +11,8 @@
 //!   (`doubt_about` of `ts_given`); [`issuers_in`]: the certificates that octets are, one for one.
 //! - [`other_kind`]: what octets hold that are not of the wanted kind, where that is known
 //!   (`IsOther` in `specs/Others`).
-//! - [`read_file`], [`read_within`], [`read_at_most`]: no more octets than a frame may have, or
-//!   than are wanted (`short`).
+//! - [`read_file`], [`read_within`], [`read_at_most`], [`read_record`]: no more octets than a frame
+//!   may have, or than are wanted (`short`).
 //! - [`values_in`], [`octets_of`], [`certificates_of`], [`values_of`], [`files_of`],
 //!   [`key_in`], [`keyring_of`], [`fault_of`], [`second`], [`draw_id`]: files, and what is wrong
 //!   with them. It is safe and ends; which octets a file gives, no clause says.
@@ -40,7 +40,7 @@ mod printing;
 mod vouching;
 
 pub use clock::now;
-pub use disks::{format_files, migrate_files, open_disks};
+pub use disks::{format_files, migrate_files, open_disks, read_record};
 pub use fault::TaskFault;
 pub use files::{MAX_SHOWN, MAX_TABLE, fault_of, read_at_most, read_file, read_within, second};
 pub use folders::files_of;

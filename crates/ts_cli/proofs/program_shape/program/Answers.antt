@@ -10,4 +10,5 @@ returns c =
     let id = c.among-program-4.ensures _ _ question c.reading.ensures.shape in
     let show = c.among-program-5.ensures _ _ id c.reading-2.ensures.shape in
     let listed = c.with_listings-program.ensures _ (c.with_upkeep.ensures _ show) in
-    c.command_of.ensures _ (c.among.ensures _ _ listed c.sync.ensures.shape)
+    let synced = c.among-program-6.ensures _ _ listed c.sync.ensures.shape in
+    c.command_of.ensures _ (c.among.ensures _ _ synced c.replay.ensures.shape)

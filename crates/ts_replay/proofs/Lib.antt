@@ -1,0 +1,3 @@
+pub mod Opening
+pub mod Prefixes
+pub mod Runs
