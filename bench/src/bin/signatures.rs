@@ -18,20 +18,22 @@ const ROUNDS: usize = 200;
 const CHECKS: u32 = 20;
 
 /// The name of an algorithm, its AlgorithmIdentifier, and OpenSSL's name of its hash.
-const ALGORITHMS: [(&str, &[u8], Option<&str>); 5] = [
+const ALGORITHMS: [(&str, &[u8], Option<&str>); 6] = [
     ("RSA-2048", RSA_SHA256, Some("SHA256")),
     ("RSA-4096", RSA_SHA256, Some("SHA256")),
     ("P-256", ECDSA_SHA256, Some("SHA256")),
     ("P-384", ECDSA_SHA384, Some("SHA384")),
+    ("P-521", ECDSA_SHA512, Some("SHA512")),
     ("Ed25519", ED25519, None),
 ];
 
 /// sha256WithRSAEncryption with the parameters NULL (RFC 4055 5).
 const RSA_SHA256: &[u8] = b"\x30\x0d\x06\x09\x2a\x86\x48\x86\xf7\x0d\x01\x01\x0b\x05\x00";
 
-/// ecdsa-with-SHA256 and ecdsa-with-SHA384 (RFC 5758 3.2).
+/// ecdsa-with-SHA256, ecdsa-with-SHA384 and ecdsa-with-SHA512 (RFC 5758 3.2).
 const ECDSA_SHA256: &[u8] = b"\x30\x0a\x06\x08\x2a\x86\x48\xce\x3d\x04\x03\x02";
 const ECDSA_SHA384: &[u8] = b"\x30\x0a\x06\x08\x2a\x86\x48\xce\x3d\x04\x03\x03";
+const ECDSA_SHA512: &[u8] = b"\x30\x0a\x06\x08\x2a\x86\x48\xce\x3d\x04\x03\x04";
 
 /// id-Ed25519 (RFC 8410 3).
 const ED25519: &[u8] = b"\x30\x05\x06\x03\x2b\x65\x70";

@@ -186,4 +186,112 @@ pub const CAVP: &[Sample] = &[
             147c19a3bb20cd24be8ed1f95f1e61863a709d2d0148e2",
         is_good: false,
     },
+    // a signature
+    Sample {
+        curve: Curve::P521,
+        hash: Hash::Sha256,
+        key: "0400397714abcc503eaa0c18abd1fd26586d28ec1b1035d37ac710f2823911ec9afa429b41ea89ce\
+            c13d5bcae9d6d7147794407e409f3b267cf4dd27e8c77e7ccf4d3600a3a4b749d19b84708e42b59e\
+            9faa5a99ac0f0a01121655fab87785fca38c8cd4277c8c2c9a0024ff608c3cce954596315dfe0e3b\
+            133aeab08bb5389eb2a4f1fb42",
+        message: "961c9451bbb298e17f503680099244d969a0ff3d0ce6cf15b5bcc73d6edc3e8c8535a18531d88566\
+            4612cad97da174f1daee6aad95220f6e2fd8c734c57747e46db21e169a03dd673df07aff30848e83\
+            70c0960d732e74f9b1d8b53847b69d2cad80f346b50e89d7993cb758fc218668c771422f804d3c91\
+            62da98cb30821912",
+        signature: "3081870242019da96a866db12948e0aec7231f797061f345739d439bdaaba63e4d03e0bb52c3fea2\
+            fb593347d983f24a3afa6a77f476e6bb49a5de843b4c4755cddce97b8b909e02411bb442f428b2ca\
+            445a75ad88ed49d965d6659d748d02cebf78faa1ecc187b606f284d11d47791d585dc371c2d91848\
+            a55ca7b092f06d561efcf64e0de0814e1db4",
+        is_good: true,
+    },
+    // the key differs
+    Sample {
+        curve: Curve::P521,
+        hash: Hash::Sha256,
+        key: "0400defff5ef7cc5de0e1ac32261e7a74e8c434c0b51f76df7566b612cc5b8201e7b38c51aa6118b\
+            6307f436394bf452a72224c977e37e410eae9525df2ee00a8123bf00263b7db73558ddc783824f0b\
+            19776802aaf5e46ccb1b1d1dda07d2d6c5843f5036ae8d381b235ccd2ed04eb90c5d51e32cbd7acd\
+            c7031cae63c06797556fb66fe3",
+        message: "77bd3d86c52fe8c327649ce44ccb313cf34d6eee9f6074fd60a9ee3dbf3a84dc680c91703632d6f4\
+            ff39b8ea3d13090054d186b4a928b1052caee17dc9bee7a5905ca9bcbcd065be4160c4dd25639f2b\
+            23d1ce4837598917d7c86425679de1b33e922e331c1f3f748d3cbd8fc6aec68b73978f5d25d730c8\
+            a7fde247edd32822",
+        signature: "30818702420089bd129a537840a52ef434d5a8ba4add952f72f22a84ac4523ea0bc02cbfa8b681ab\
+            0ed3fa2bca24ae575f23fce7efbb9bfd28e465174158a5ad2b08fd9e0b7132024104ed533337791e\
+            05f8d097eabdf4be96b3fcc9f876d47fb8c5c7a05cbddba398cded2edf5ec9b7dbb4e32c1374b469\
+            53d66a193c211ef12de4b9d73adc369d5e95",
+        is_good: false,
+    },
+    // a signature
+    Sample {
+        curve: Curve::P521,
+        hash: Hash::Sha384,
+        key: "040068801cdbb1e07f4b72218c52aa24bda872f1b2ab4e0c13b686cb8b10096ff88018e821967693\
+            59227192752a1c4c884f08cfa7f947ac428651f528bd41d103407301aeb335cb89ecae3cbc05681e\
+            2170870dcf40d486db4011c4d7bd84c58c6b3204161d9ca3516760b0c42466605077c96c0540939c\
+            635bf5d7d11e1407b6da30c094",
+        message: "978116ee2d7fcbf1f5013fc84153c5fae7c1785a2fee2c7bcacd962aef6dc201ac62b04eab505b6a\
+            5288ea21d41b64114ce01a0a01c617ffd20d1e70babf1af1523a285494a3fe5bd8619bcf87370caf\
+            e1188d9843ce805db9adad563d0d2832833a8898bca03965a2dde6f94d2be5a653eb389b6539ec78\
+            844cff4d4df532a8",
+        signature: "308187024201ce67a3509d59f8a0f171b86559f1d84589ff2693ff7d3ad3ae64b0e5af85db2fd99b\
+            fd7eda6e8f984a87f16767231cbd9026bed0a9a49d74ea5047201227c98f41024132b0e4c043df8e\
+            81ff22c9bead36f704c992ec160d6be7764640200e1307002421b5d73154eccde012b463aeefd111\
+            38c5b9b705623c2c849736da23c122df06f9",
+        is_good: true,
+    },
+    // the message differs
+    Sample {
+        curve: Curve::P521,
+        hash: Hash::Sha384,
+        key: "040066ad5c073425bbbe3a1d97ce6e1a9f2c298392c5afb95c60eee1393f7cd5c9a12c283258b1a5\
+            3f2ed4abd13ba1287f3a1b051a09cb0f337cb6cf616dffd16aacc2009d2b2afc181bd82043b13b82\
+            22cd206b9264d73b229c71d9abcf74a478a7f7088bc8c7bb1e54882fee693340a3cf1aa56ccc2fb8\
+            1d2675b19bba754dae0c2f00c3",
+        message: "f209ba5871f0a05677c7ddfaf93d39dcc69467fb6dd99b09c7685958aa155838779f9df0f2ff04b6\
+            b80275d2e9abce8285333c18cac19a42a6227ea1ebac521110d393e4e43bdeefdda0b3f9ceb2f3da\
+            6c5364d44d2a18795327668624fb8dd8c9e33dbc810f4c24edbecdfaba6ac632f5b2831f42121f13\
+            30930902452fbbc5",
+        signature: "30818702414e6f08380c43f225169acb0e9f3ff61cdd2e9b713d149f63b5b6a4510d381409648fc1\
+            d442fa1bbbce2a8fe1ff7d1de0597f72d7681c79d3a876db6d3ef89ed1920242011745ab4dec3542\
+            cbf37d10090d6038bd1ef9cce8216a4069b21e4a08075e7e8502ec97b99d3b18fd314d6ab6826bbb\
+            faa2343ada1abc7c3b551c0b854dc45ffa75",
+        is_good: false,
+    },
+    // a signature
+    Sample {
+        curve: Curve::P521,
+        hash: Hash::Sha512,
+        key: "040153eb2be05438e5c1effb41b413efc2843b927cbf19f0bc9cc14b693eee26394a0d8880dc946a\
+            06656bcd09871544a5f15c7a1fa68e00cdc728c7cfb9c4480348670143ae8eecbce8fcf6b16e6159\
+            b2970a9ceb32c17c1d878c09317311b7519ed5ece3374e7929f338ddd0ec0522d81f2fa4fa47033e\
+            f0c0872dc049bb89233eef9bc1",
+        message: "f69417bead3b1e208c4c99236bf84474a00de7f0b9dd23f991b6b60ef0fb3c62073a5a7abb1ef69d\
+            bbd8cf61e64200ca086dfd645b641e8d02397782da92d3542fbddf6349ac0b48b1b1d69fe462d1bb\
+            492f34dd40d137163843ac11bd099df719212c160cbebcb2ab6f3525e64846c887e1b52b52eced94\
+            47a3d31938593a87",
+        signature: "308188024200dd633947446d0d51a96a0173c01125858abb2bece670af922a92dedcec067136c1fa\
+            92e5fa73d7116ac9c1a42b9cb642e4ac19310b049e48c53011ffc6e7461c36024200efbdc6a414bb\
+            8d663bb5cdb7c586bccfe7589049076f98cee82cdb5d203fddb2e0ffb77954959dfa5ed0de850e42\
+            a86f5a63c5a6592e9b9b8bd1b40557b9cd0cc0",
+        is_good: true,
+    },
+    // r differs
+    Sample {
+        curve: Curve::P521,
+        hash: Hash::Sha512,
+        key: "04012a593f568ca2571e543e00066ecd3a3272a57e1c94fe311e5df96afc1b792e5862720fc730e6\
+            2052bbf3e118d3a078f0144fc00c9d8baaaa8298ff63981d09d911017cea5ae75a74100ee03cdf24\
+            68393eef55ddabfe8fd5718e88903eb9fd241e8cbf9c68ae16f4a1db26c6352afcb1894a9812da6d\
+            32cb862021c86cd8aa483afc26",
+        message: "a0732a605c785a2cc9a3ff84cbaf29175040f7a0cc35f4ea8eeff267c1f92f06f46d3b3543719518\
+            5d322cbd775fd24741e86ee9236ba5b374a2ac29803554d715fa4656ac31778f103f88d68434dd20\
+            13d4c4e9848a11198b390c3d600d712893513e179cd3d31fb06c6e2a1016fb96ffd970b1489e36a5\
+            56ab3b537eb29dff",
+        signature: "308187024201aac7692baf3aa94a97907307010895efc1337cdd686f9ef2fd8404796a74701e55b0\
+            3ceef41f3e6f50a0eeea11869c4789a3e8ab5b77324961d081e1a3377ccc91024109c1e7d93d056b\
+            5a97759458d58c49134a45071854b8a6b8272f9fe7e78e1f3d8097e8a6e731f7ab4851eb26d5aa4f\
+            dadba6296dc7af835fe3d1b6dba4b031d5f3",
+        is_good: false,
+    },
 ];

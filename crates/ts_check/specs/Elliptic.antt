@@ -4,7 +4,7 @@ use Rattle.std.specs.Str.{bytes_eq}
 use Rattle.ts_sig.specs.Key.{Key}
 use Rattle.ts_digest.specs.declared.hash.Hash.{Hash}
 use Rattle.ts_ecdsa.specs.declared.curve.Curve.{Curve}
-use Rattle.ts_ecdsa.specs.declared.curve.Curve.TheVariants.{P256, P384}
+use Rattle.ts_ecdsa.specs.declared.curve.Curve.TheVariants.{P256, P384, P521}
 use Rattle.ts_ecdsa.specs.Curve.{curve_of}
 use Rattle.ts_ecdsa.specs.Signature.{IsEcdsaSignature}
 use Rattle.ts_ecdsa.specs.Tests.{is_ecdsa_signature_of}
@@ -15,10 +15,12 @@ use Rattle.ts_check.specs.Options.{holds_of}
 abbrev pub ec_public_key : List ℕ
 ec_public_key = 0x2a ∷ 0x86 ∷ 0x48 ∷ 0xce ∷ 0x3d ∷ 2 ∷ 1 ∷ []
 
--- parameters that name a curve: secp256r1, 1.2.840.10045.3.1.7, or secp384r1, 1.3.132.0.34
+-- parameters that name a curve (RFC 5480 2.1.1.1): secp256r1, 1.2.840.10045.3.1.7; secp384r1,
+-- 1.3.132.0.34; secp521r1, 1.3.132.0.35
 abbrev pub curve_name : Curve → List ℕ
 curve_name P256 = short 6 (0x2a ∷ 0x86 ∷ 0x48 ∷ 0xce ∷ 0x3d ∷ 3 ∷ 1 ∷ 7 ∷ [])
 curve_name P384 = short 6 (0x2b ∷ 0x81 ∷ 4 ∷ 0 ∷ 0x22 ∷ [])
+curve_name P521 = short 6 (0x2b ∷ 0x81 ∷ 4 ∷ 0 ∷ 0x23 ∷ [])
 
 -- the key is one on this curve
 unfoldable pub is_on : Curve → Key → Bool
@@ -28,7 +30,9 @@ is_on curve key =
 
 -- the curve of a key
 unfoldable pub curve_named : Key → Option Curve
-curve_named key = if is_on P256 key then Some P256 else (if is_on P384 key then Some P384 else None)
+curve_named key =
+    if is_on P256 key then Some P256
+    else (if is_on P384 key then Some P384 else (if is_on P521 key then Some P521 else None))
 
 -- the signature is one by ECDSA under the key
 unfoldable pub ecdsa_takes : Hash → Key → List ℕ → List ℕ → Bool

@@ -18,6 +18,7 @@ fn name_of(curve: Curve) -> &'static [u8]
     match curve {
         Curve::P256 => &[6, 8, 0x2a, 0x86, 0x48, 0xce, 0x3d, 3, 1, 7],
         Curve::P384 => &[6, 5, 0x2b, 0x81, 4, 0, 0x22],
+        Curve::P521 => &[6, 5, 0x2b, 0x81, 4, 0, 0x23],
     }
 }
 
@@ -45,6 +46,9 @@ fn curve_named(key: &WorkingKey<'_>) -> Option<Curve>
     }
     if is_on(Curve::P384, key) {
         return Some(Curve::P384);
+    }
+    if is_on(Curve::P521, key) {
+        return Some(Curve::P521);
     }
     None
 }

@@ -5,8 +5,8 @@
 //! NativeCheck.good(algorithm, &key, signed, signature)      // no options, no state
 //! ```
 //!
-//! Algorithms are RSASSA-PKCS1-v1_5 and RSASSA-PSS (RFC 8017, RFC 4055), and ECDSA on P-256 and
-//! P-384 (FIPS 186-5, RFC 5758), each with SHA-256, SHA-384 and SHA-512; and Ed25519 (RFC 8032,
+//! Algorithms are RSASSA-PKCS1-v1_5 and RSASSA-PSS (RFC 8017, RFC 4055), and ECDSA on P-256, P-384
+//! and P-521 (FIPS 186-5, RFC 5758), each with SHA-256, SHA-384 and SHA-512; and Ed25519 (RFC 8032,
 //! RFC 8410). An identifier is compared as a whole, with its parameters; a key by its algorithm and
 //! parameters, which may be inherited (RFC 5280 6.1.4 (e)). Any other signature is not good.
 //!

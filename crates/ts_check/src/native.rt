@@ -15,7 +15,7 @@ use ts_sig::{SignatureAlgorithm, SignatureCheck, WorkingKey, algorithm_named};
 pub const ALGORITHMS: &str = "\
 algorithm RSASSA-PKCS1-v1_5 with SHA-256, SHA-384, SHA-512
 algorithm RSASSA-PSS with SHA-256, SHA-384, SHA-512
-algorithm ECDSA on P-256 and P-384 with SHA-256, SHA-384, SHA-512
+algorithm ECDSA on P-256, P-384 and P-521 with SHA-256, SHA-384, SHA-512
 algorithm Ed25519
 ";
 

@@ -1,4 +1,5 @@
 pub mod Montgomery
+pub mod Digits
 pub mod Stored
 pub mod Triples
 pub mod Double

@@ -1,7 +1,7 @@
--- The curves P-256 and P-384 (SP 800-186 3.2.1), by their domain parameters (SEC 1 3.1.1).
-use Rattle.std.specs.Prelude.{◌≡◌, ℕ, ◌-◌, ◌<◌, Bool, ◌&&◌, nat_lt, nat_eq, Some}
+-- The curves P-256, P-384 and P-521 (SP 800-186 3.2.1), by their domain parameters (SEC 1 3.1.1).
+use Rattle.std.specs.Prelude.{◌≡◌, ℕ, ◌+◌, ◌-◌, ◌/◌, ◌<◌, Bool, ◌&&◌, nat_lt, nat_eq, Some}
 use Rattle.ts_ring.specs.Modular.{add, mul}
-use Rattle.ts_prime.specs.Primes.{p256, n256, p384, n384}
+use Rattle.ts_prime.specs.Primes.{p256, n256, p384, n384, p521, n521}
 use Rattle.ts_curve.specs.Points.{Point, joint_multiple}
 
 -- the curve y^2 = x^3 + a x + b over the numbers modulo a prime, its base point, the order of that
@@ -41,6 +41,25 @@ curve_p384 = record {
   order = n384;
   bits = 384;
 }
+
+-- P-521 (SP 800-186 3.2.1.5)
+abbrev pub curve_p521 : Curve
+curve_p521 = record {
+  prime = p521;
+  a = p521 - 3;
+  b =
+      0x51953eb9618e1c9a1f929a21a0b68540eea2da725b99b315f3b8b489918ef109e156193951ec7e937b1652c0bd3bb1bf073573df883d2c34f1ef451fd46b503f00;
+  base_x =
+      0xc6858e06b70404e9cd9e3ecb662395b4429c648139053fb521f828af606b4d3dbaa14b5e77efe75928fe1dc127a2ffa8de3348b3c1856a429bf97e7e31c2e5bd66;
+  base_y =
+      0x11839296a789a3bc0045c8a5fb42c7d1bd998f54449579b446817afbd17273e662c97ee72995ef42640c550b9013fad0761353c7086a272c24088be94769fd16650;
+  order = n521;
+  bits = 521;
+}
+
+-- how many octets a coordinate has (SEC 1 2.3.5): the prime has as many bits as the order
+abbrev pub size : Curve → ℕ
+size c = (c.bits + 7) / 8
 
 -- the base point G
 abbrev pub base : Curve → Point

@@ -1,5 +1,6 @@
 pub mod Four
 pub mod Six
+pub mod Nine
 pub mod Points
 pub mod Jacobian
 pub mod Curves

@@ -1,7 +1,8 @@
 //! Curves by their domain parameters (SEC 1 3.1.1).
 
-ghost use Rattle.std.specs.Prelude.{◌≡◌, ◌+◌, ◌-◌, ◌*◌, ◌<◌, ◌%◌, ◌↔◌, ℕ, IsTrue, Some, true};
-ghost use Rattle.ts_curve.specs.Curves.{Curve as Parameters, IsOnCurve, base};
+ghost use Rattle.std.specs.Prelude.{◌≡◌, ◌+◌, ◌-◌, ◌*◌, ◌^◌, ◌≤◌, ◌<◌, ◌%◌, ◌↔◌, ℕ, IsTrue};
+ghost use Rattle.std.specs.Prelude.{Some, true};
+ghost use Rattle.ts_curve.specs.Curves.{Curve as Parameters, IsOnCurve, base, size, combination};
 ghost use Rattle.ts_curve.specs.Curves.{is_on_curve as is_on_curve_test};
 
 use crate::limbs::Limbs;
@@ -23,6 +24,10 @@ pub trait DomainParameters {
     /// Its domain parameters.
     ghost curve: { Parameters };
 
+    /// How many octets a coordinate has (SEC 1 2.3.5).
+    fn size() -> u32
+        ensures { result ≡ size curve };
+
     /// The coefficient b.
     fn b() -> Self::Limbs
         ensures { Self.Limbs.number result ≡ curve.b };
@@ -41,7 +46,9 @@ pub trait DomainParameters {
 
     ghost a_is: { curve.a ≡ curve.prime - 3 };
 
-    ghost bits_is: { Self.Limbs.BITS ≡ curve.bits };
+    ghost order_bits: { curve.order < 2 ^ curve.bits };
+
+    ghost bits_fit: { 8 * size curve ≤ Self.Limbs.BITS };
 
     ghost base_is_on: { is_on_curve_test curve curve.base_x curve.base_y ≡ true };
 
@@ -60,6 +67,20 @@ pub fn base_point<C: DomainParameters>() -> CurvePoint<C::Prime>
         &Residue::from_limbs(&C::base_x()),
         &Residue::from_limbs(&C::base_y()),
     )
+}
+
+/// The sum of `u` times the base point and `v` times another point. All bits of the limbs are gone
+/// through: those above the order's are 0, and double infinity.
+pub fn combination<C: DomainParameters>(
+    u: &Residue<C::Order>,
+    v: &Residue<C::Order>,
+    point: &CurvePoint<C::Prime>,
+) -> CurvePoint<C::Prime>
+    ensures { result ≡ combination C.curve u.now v.now point.now }
+{
+    let first = u.copy();
+    let second = v.copy();
+    base_point::<C>().joint_multiple(&first.to_limbs(), point, &second.to_limbs())
 }
 
 /// Whether these are the coordinates of a point of the curve (SEC 1 3.2.2.1).

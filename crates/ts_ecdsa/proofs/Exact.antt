@@ -10,10 +10,10 @@ use Rattle.ts_der.specs.Integer.{is_negative}
 use Rattle.ts_der.proofs.Laws.{ok_is}
 use Rattle.ts_curve.specs.Octets.{number_of}
 use Rattle.ts_curve.specs.Points.{Point}
-use Rattle.ts_curve.specs.Curves.{Curve, combination, is_on_curve}
+use Rattle.ts_curve.specs.Curves.{Curve, size, combination, is_on_curve}
 use Rattle.ts_curve.proofs.Tests.{both, joined, on_curve_test}
 use Rattle.ts_ecdsa.specs.Number.{FirstIs, checked_point, IsNumberSignature}
-use Rattle.ts_ecdsa.specs.Key.{size, key_x, key_y, key_point, IsPublicKey}
+use Rattle.ts_ecdsa.specs.Key.{key_x, key_y, key_point, IsPublicKey}
 use Rattle.ts_ecdsa.specs.Reading.{parts_of}
 use Rattle.ts_ecdsa.specs.Signature.{hash_number, IsEcdsaSignature}
 use Rattle.ts_ecdsa.specs.Tests.{first_is, is_number_signature_of, is_public_key, is_good, is_ecdsa_signature_of}

@@ -1,12 +1,8 @@
 -- Public keys: uncompressed points (SEC 1 2.3.4).
-use Rattle.std.specs.Prelude.{◌≡◌, ℕ, ◌+◌, ◌*◌, ◌/◌, List, length, slice_index, slice_range, Some}
+use Rattle.std.specs.Prelude.{◌≡◌, ℕ, ◌+◌, ◌*◌, List, length, slice_index, slice_range, Some}
 use Rattle.ts_curve.specs.Octets.{number_of}
 use Rattle.ts_curve.specs.Points.{Point}
-use Rattle.ts_curve.specs.Curves.{Curve, IsOnCurve}
-
--- how many octets a coordinate has
-abbrev pub size : Curve → ℕ
-size c = c.bits / 8
+use Rattle.ts_curve.specs.Curves.{Curve, size, IsOnCurve}
 
 -- the coordinates: of the octets after the first, each half
 abbrev pub key_x : Curve → List ℕ → ℕ

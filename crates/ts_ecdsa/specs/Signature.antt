@@ -3,13 +3,14 @@ use Rattle.std.specs.Prelude.{ℕ, List, take}
 use Rattle.ts_digest.specs.declared.hash.Hash.{Hash}
 use Rattle.ts_digest.specs.Hash.{hash_of}
 use Rattle.ts_curve.specs.Octets.{number_of}
-use Rattle.ts_curve.specs.Curves.{Curve}
+use Rattle.ts_curve.specs.Curves.{Curve, size}
 use Rattle.ts_ecdsa.specs.Number.{IsNumberSignature}
-use Rattle.ts_ecdsa.specs.Key.{size, key_point, IsPublicKey}
+use Rattle.ts_ecdsa.specs.Key.{key_point, IsPublicKey}
 use Rattle.ts_ecdsa.specs.Value.{IsSignatureValue}
 
 -- the number e: the leftmost octets of the hash, as many as the order has, or all of a shorter hash
--- (6.4.1 step 2)
+-- (6.4.1 step 2: the leftmost bits, as many as the order has; those are octets, since the orders of
+-- P-256 and P-384 have whole octets of bits, and no hash has more bits than that of P-521)
 abbrev pub hash_number : Curve → Hash → List ℕ → ℕ
 hash_number c hash message = number_of (take (size c) (hash_of hash message))
 

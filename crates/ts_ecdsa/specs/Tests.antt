@@ -6,9 +6,9 @@ use Rattle.ts_der.specs.declared.fault.Fault.{Fault}
 use Rattle.ts_der.specs.Integer.{is_negative}
 use Rattle.ts_curve.specs.Octets.{number_of}
 use Rattle.ts_curve.specs.Points.{Point}
-use Rattle.ts_curve.specs.Curves.{Curve, is_on_curve}
+use Rattle.ts_curve.specs.Curves.{Curve, size, is_on_curve}
 use Rattle.ts_ecdsa.specs.Number.{checked_point}
-use Rattle.ts_ecdsa.specs.Key.{size, key_x, key_y, key_point}
+use Rattle.ts_ecdsa.specs.Key.{key_x, key_y, key_point}
 use Rattle.ts_ecdsa.specs.Reading.{parts_of}
 use Rattle.ts_ecdsa.specs.Signature.{hash_number}
 

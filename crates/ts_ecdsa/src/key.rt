@@ -3,7 +3,7 @@
 ghost use Rattle.std.specs.Prelude.{◌≡◌, IfSome, IfNone};
 ghost use Rattle.ts_ecdsa.specs.Key.{key_point, IsPublicKey};
 
-use ts_curve::{CurvePoint, DomainParameters, Limbs, is_on_curve, residue_from_octets};
+use ts_curve::{CurvePoint, DomainParameters, is_on_curve, residue_from_octets};
 
 /// The point of an uncompressed public key (SEC 1 2.3.4).
 pub fn point_from_octets<C: DomainParameters>(octets: &[u8]) -> Option<CurvePoint<C::Prime>>
@@ -11,7 +11,7 @@ pub fn point_from_octets<C: DomainParameters>(octets: &[u8]) -> Option<CurvePoin
         × (q ≡ key_point C.curve octets.now)) }
     ensures none { IfNone result (IsPublicKey C.curve octets.now → ⊥) }
 {
-    let size = (C::Limbs::BITS / 8) as usize;
+    let size = C::size() as usize;
     if octets.len() != 2 * size + 1 {
         return None;
     }

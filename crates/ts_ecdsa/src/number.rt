@@ -6,7 +6,7 @@ ghost use Rattle.ts_curve.specs.Octets.{number_of};
 ghost use Rattle.ts_ecdsa.specs.Number.{FirstIs, IsNumberSignature};
 
 use ts_curve::{
-    CurvePoint, DomainParameters, Modulus, Residue, base_point, has_scalar, residue_from_octets,
+    CurvePoint, DomainParameters, Modulus, Residue, combination, has_scalar, residue_from_octets,
 };
 use ts_der::Integer;
 
@@ -33,9 +33,7 @@ pub fn is_number_signature<C: DomainParameters>(
         return false;
     }
     let inverse = s.inverse();
-    let u = e.product(&inverse).to_limbs();
-    let v = r.product(&inverse).to_limbs();
-    let point = base_point::<C>().joint_multiple(&u, q, &v);
+    let point = combination::<C>(&e.product(&inverse), &r.product(&inverse), q);
     is_first::<C>(&point, &r)
 }
 

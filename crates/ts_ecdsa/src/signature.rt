@@ -13,7 +13,7 @@ use crate::digest::hash_number;
 use crate::key::point_from_octets;
 use crate::number::{is_number_signature, residue_from_integer};
 use crate::value::signature_parts;
-use ts_curve::{CurvePoint, DomainParameters, P256, P384, Residue};
+use ts_curve::{CurvePoint, DomainParameters, P256, P384, P521, Residue};
 use ts_der::Integer;
 use ts_digest::{Hash, Message};
 
@@ -77,5 +77,6 @@ pub fn is_ecdsa_signature(
     match curve {
         Curve::P256 => is_signature_on::<P256>(hash, public_key, signed, signature),
         Curve::P384 => is_signature_on::<P384>(hash, public_key, signed, signature),
+        Curve::P521 => is_signature_on::<P521>(hash, public_key, signed, signature),
     }
 }

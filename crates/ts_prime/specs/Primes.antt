@@ -19,6 +19,16 @@ abbrev pub n384 : ℕ
 n384 =
     0xffffffffffffffffffffffffffffffffffffffffffffffffc7634d81f4372ddf581a0db248b0a77aecec196accc52973
 
+-- 2^521 - 1: the field of P-521 (SP 800-186 3.2.1.5)
+abbrev pub p521 : ℕ
+p521 =
+    0x1ffffffffffffffffffffffffffffffffffffffffffffffffffffffffffffffffffffffffffffffffffffffffffffffffffffffffffffffffffffffffffffffffff
+
+-- the order of the base point of P-521 (SP 800-186 3.2.1.5)
+abbrev pub n521 : ℕ
+n521 =
+    0x1fffffffffffffffffffffffffffffffffffffffffffffffffffffffffffffffffa51868783bf2f966b7fcc0148f709a5d03bb5c9b8899c47aebb6fb71e91386409
+
 -- 2^255 - 19: the field of Curve25519 (RFC 7748 4.1)
 abbrev pub p25519 : ℕ
 p25519 = 0x7fffffffffffffffffffffffffffffffffffffffffffffffffffffffffffffed
