@@ -1,15 +1,16 @@
-//! The elliptic curves P-256 and P-384 (SP 800-186 3.2.1): their points, and arithmetic modulo
-//! their primes and that of edwards25519.
+//! The elliptic curves P-256, P-384 and P-521 (SP 800-186 3.2.1): their points, and arithmetic
+//! modulo their primes and that of edwards25519.
 //!
 //! All but the limbs and the reductions is written once, over three traits: [`Limbs`], the numbers
-//! of four or six limbs of 64 bits; [`Modulus`], a prime with what Montgomery's product needs of
-//! it; and [`DomainParameters`], a curve. A product is made of limbs, and then reduced as
-//! Montgomery does, which each prime of a field does by its own shape. No call allocates.
+//! of four, six or nine limbs of 64 bits; [`Modulus`], a prime with what Montgomery's product needs
+//! of it; and [`DomainParameters`], a curve. A product is made of limbs, and then reduced as
+//! Montgomery does, which each prime of a field does by its own shape. Nine limbs are three digits
+//! of three limbs. No call allocates.
 //!
 //! ```text
 //! // u times the base point of P-256, and v times another point
 //! let u: Residue<OrderP256> = residue_of_octets(octets);
-//! let point = base_point::<P256>().joint_multiple(&u.to_limbs(), &other, &v.to_limbs());
+//! let point = combination::<P256>(&u, &v, &other);
 //! point.x()                      // None: the point is infinity
 //! has_scalar::<P256>(&point, &r) // without a division: is it r, modulo the order?
 //! ```
@@ -21,10 +22,11 @@
 //!
 //! What is proved of each call:
 //!
-//! - [`Limbs`], for [`Limbs4`] and [`Limbs6`]: each call is exact, with what is carried out.
+//! - [`Limbs`], for [`Limbs4`], [`Limbs6`] and [`Limbs9`]: each call is exact, with what is carried
+//!   out.
 //!   `montgomery_reduction` is below the modulus and, times 2^BITS, congruent to the number with
 //!   these low and high limbs; `montgomery_product` so to the product.
-//! - [`Modulus`], for the primes and orders of both curves and for [`Prime25519`]: the constants
+//! - [`Modulus`], for the primes and orders of the curves and for [`Prime25519`]: the constants
 //!   are what they are called, and the prime is one; `reduction` and `modular_sum` are what `Limbs`
 //!   says of its own.
 //! - [`Residue`]: `product`, `square`, `sum`, `difference`, `power` and `inverse` are those modulo
@@ -33,10 +35,12 @@
 //! - [`CurvePoint`]: `new`, `infinity`, `double`, `sum` and `joint_multiple` are those of
 //!   `specs/Points.antt`, where a is -3; `x` is the first coordinate, and `has_x` tells exactly
 //!   whether a number is.
-//! - [`DomainParameters`], for [`P256`] and [`P384`]: the coefficient b and the base point.
-//!   [`base_point`] is the base point, [`is_on_curve`] tells exactly whether coordinates are on the
-//!   curve (SEC 1 3.2.2.1), [`scalar_of`] is the remainder modulo the order, and [`has_scalar`]
-//!   tells exactly whether a point's first coordinate has a remainder.
+//! - [`DomainParameters`], for [`P256`], [`P384`] and [`P521`]: the coefficient b, the base point,
+//!   and how many octets a coordinate has. [`base_point`] is the base point, [`combination`] the sum
+//!   of two multiples, one of them the base point's, over as many bits as the order has;
+//!   [`is_on_curve`] tells exactly whether coordinates are on the curve (SEC 1 3.2.2.1),
+//!   [`scalar_of`] is the remainder modulo the order, and [`has_scalar`] tells exactly whether a
+//!   point's first coordinate has a remainder.
 //! - [`limbs_from_octets`], [`residue_from_octets`], [`residue_of_octets`]: the number of octets
 //!   (SEC 1 2.3.8), where it fits; where it is below the prime; modulo the prime.
 //! - [`laws`]: the base points are on their curves; `inverse` is the inverse modulo the orders; in

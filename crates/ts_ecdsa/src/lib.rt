@@ -1,5 +1,5 @@
-//! ECDSA signatures (FIPS 186-5 6.4.2) over P-256 and P-384 with SHA-256, SHA-384 and SHA-512, from
-//! the octets of a public key.
+//! ECDSA signatures (FIPS 186-5 6.4.2) over P-256, P-384 and P-521 with SHA-256, SHA-384 and
+//! SHA-512, from the octets of a public key.
 //!
 //! ```text
 //! // Does the key take the signature of these octets?
@@ -17,7 +17,7 @@
 //!   of the leftmost octets of the hash, as many as the order has.
 //!
 //! The answer is also a test of the arguments that computes (`specs/Tests.antt`). Any hash goes
-//! with either curve; which of them an algorithm identifier names is for the caller to know.
+//! with each curve; which of them an algorithm identifier names is for the caller to know.
 //!
 //! # Not promised
 //!
