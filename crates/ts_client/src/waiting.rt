@@ -16,7 +16,7 @@ use ts_wire::Frame;
 
 /// How many milliseconds pass before the node is first asked for a command's outcome. Each time it
 /// is twice as long, up to [`LONGEST`].
-const FIRST: u64 = 10;
+const FIRST: u64 = 1;
 
 /// The longest pause between two looks, in milliseconds.
 const LONGEST: u64 = 320;
