@@ -1,4 +1,4 @@
-use Rattle.std.proofs.Common.{◌≡◌, ◌<◌, ◌≤◌, ◌+◌, ◌-◌, ◌*◌, ◌^◌, refl, sym, ap, ◌∙◌, arith}
+use Rattle.std.proofs.Common.{◌≡◌, ◌<◌, ◌+◌, ◌-◌, ◌^◌, refl, sym, ap, ◌∙◌, arith}
 use Rattle.ts_curve.specs.Curves.{base}
 use Rattle.ts_curve.specs.Points.{joint_multiple}
 use Rattle.ts_curve.proofs.Multiple.{more_bits}
