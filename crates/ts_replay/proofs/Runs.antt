@@ -1,5 +1,7 @@
 -- What the steps of a replay have found.
-use Rattle.std.proofs.Common.{◌≡◌, ◌∙◌, ◌+◌, ◌≤◌, ◌==◌, ◌++◌, ◌∷◌, ℕ, zero, suc, Bool, true, false, nat_lt, List, [], length, drop, take, Option, Some, None, ap, refl, sym, arith, append-nil, if◌then◌else◌}
+use Rattle.std.proofs.Common.{◌≡◌, ◌∙◌, ◌+◌, ◌≤◌, ◌==◌, ◌++◌, ◌∷◌, ℕ, zero, suc, Bool, true, false}
+use Rattle.std.proofs.Common.{nat_lt, List, [], length, drop, take, Option, Some, None, ap, refl, sym}
+use Rattle.std.proofs.Common.{arith, append-nil, if◌then◌else◌}
 use Rattle.std.proofs.lemmas.List.{take-append-drop}
 use Rattle.ts_command.specs.declared.command.Command.{Command}
 use Rattle.ts_replay.specs.declared.replaying.Replay.{Replay}

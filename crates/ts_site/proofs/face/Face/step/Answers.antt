@@ -42,4 +42,6 @@ returns-in-None c =
     let a = c.args.self.now.connection in
     let mid : State = (c.read.new.self, c.args.self.now.asking) in
     let due = subst (λ (p : Progress). Tells a.stage a c.read.new.self p) c.in-Stops.is c.in_ok-read.ensures.told in
-    after_read c.take_request.result c.args.scene.now c.args.now s mid (state_of c.take_request.new.self) c.requires c.in_ok-read.ensures.read c.requires c.in_ok-read.ensures.times due (sym c.in-None.ensures) c.take_request.ensures
+    after_read c.take_request.result c.args.scene.now c.args.now s mid
+    (state_of c.take_request.new.self) c.requires c.in_ok-read.ensures.read c.requires
+    c.in_ok-read.ensures.times due (sym c.in-None.ensures) c.take_request.ensures
