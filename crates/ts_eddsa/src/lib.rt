@@ -21,7 +21,9 @@
 //! of 5.1.4; a multiple is by doubling and adding, the highest bit first (`specs/Points.antt`).
 //!
 //! - law [`laws::constants`]: the constants of `specs/Field.antt` are what they are called, and the
-//!   base point is on the curve.
+//!   base point is on the curve;
+//! - law [`laws::decodes_points`]: the octets that decode are exactly the encodings of the points
+//!   of the curve (`specs/Encode.antt`, 5.1.2), and each decodes to its point.
 //!
 //! # Not promised
 //!
