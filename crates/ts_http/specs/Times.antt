@@ -17,6 +17,10 @@ longest Asked idle request size = 2 ^ 64 - 1
 longest Answer idle request size = request
 longest Ended idle request size = request
 
+-- a new connection: nothing is asked, from this moment on
+abbrev pub begun_at : ℕ → Times
+begun_at now = record { phase = Idle; since = now; left = 0 }
+
 abbrev pub is_late : Times → ℕ → ℕ → ℕ → ℕ → Bool
 is_late t idle request size now = nat_le (longest t.phase idle request size) (now - t.since)
 

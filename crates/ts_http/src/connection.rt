@@ -3,7 +3,8 @@
 ghost use Rattle.std.specs.Prelude.{◌≡◌, ◌≤◌, length, option_map, take, OnOk};
 ghost use Rattle.ts_http.specs.Moves.{HasCome, HasLeft, IsNew, IsSame, is_ended, is_read};
 ghost use Rattle.ts_http.specs.Moves.{request_in, wrong_in};
-ghost use Rattle.ts_http.specs.Times.{enter_phase, idle_since, is_late_in, lighten, phase_in};
+ghost use Rattle.ts_http.specs.Times.{begun_at, enter_phase, idle_since, is_late_in, lighten};
+ghost use Rattle.ts_http.specs.Times.{phase_in};
 ghost use Rattle.ts_http.specs.Times.{size_at};
 
 use crate::request::Request;
@@ -53,7 +54,8 @@ pub struct Connection {
 impl Connection {
     /// A connection of which nothing has come, at this moment in milliseconds.
     pub fn new(alloc: Global, now: u64) -> Connection
-        ensures { IsNew result }
+        ensures begun { IsNew result }
+        ensures times { result.times ≡ begun_at now }
     {
         Connection {
             alloc,

@@ -1,8 +1,7 @@
 //! When a connection is late.
 
 ghost use Rattle.std.specs.Prelude.{◌≡◌};
-ghost use Rattle.ts_http.specs.Times.{enter_phase, idle_since, is_late, lighten, longest};
-ghost use Rattle.ts_http.specs.declared.times.Phase.TheVariants.{Idle};
+ghost use Rattle.ts_http.specs.Times.{begun_at, enter_phase, idle_since, is_late, lighten, longest};
 
 /// What a connection does.
 #[derive(Clone, Copy, Debug, PartialEq, Eq)]
@@ -50,7 +49,7 @@ fn longest(phase: Phase, idle_ms: u64, request_ms: u64, size: u64) -> u64
 impl Times {
     /// A new connection, at this moment.
     pub fn new(now: u64) -> Times
-        ensures { result ≡ record { phase = Idle; since = now; left = 0 } }
+        ensures { result ≡ begun_at now }
     {
         Times {
             phase: Phase::Idle,

@@ -3,7 +3,8 @@
 ghost use Rattle.std.specs.Prelude.{◌≡◌, ◌≤◌, ◌⊎◌, ◌&&◌, List, None, IfOk, OnOk, length};
 ghost use Rattle.std.specs.Prelude.{option_map, take, true, false};
 ghost use Rattle.ts_http.specs.Moves.{HasCome, HasLeft, is_ended, is_read, request_in};
-ghost use Rattle.ts_http.specs.Times.{enter_phase, idle_since, is_late_in, lighten, phase_in};
+ghost use Rattle.ts_http.specs.Times.{begun_at, enter_phase, idle_since, is_late_in, lighten};
+ghost use Rattle.ts_http.specs.Times.{phase_in};
 ghost use Rattle.ts_site.specs.Account.{IsBegun};
 ghost use Rattle.ts_api.specs.Response.{IsLine};
 ghost use Rattle.ts_api.specs.declared.response.Response.{Response};
@@ -58,6 +59,7 @@ impl Face {
     pub fn new(alloc: Global, now: u64) -> Face
         ensures begun { IsBegun (state_of result) }
         ensures paused { result.paused ≡ false }
+        ensures times { result.connection.times ≡ begun_at now }
     {
         Face {
             alloc,
