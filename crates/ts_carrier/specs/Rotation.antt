@@ -1,13 +1,13 @@
 -- In which order nodes propose, where several do. Moments are milliseconds.
-use Rattle.std.specs.Prelude.{ℕ, Bool, not, ◌+◌, ◌-◌, ◌*◌, ◌%◌, ◌^◌, ◌&&◌, ◌++◌, [], ◌∷◌, List}
+use Rattle.std.specs.Prelude.{ℕ, Bool, not, ◌+◌, ◌-◌, ◌*◌, ◌/◌, ◌%◌, ◌^◌, ◌&&◌, ◌++◌, [], ◌∷◌, List}
 use Rattle.std.specs.Prelude.{filter, length, max, min, nat_eq, nat_lt}
 use Rattle.ts_carrier.specs.Moment.{later}
 use Rattle.ts_carrier.specs.declared.rotation.Rival.{Rival}
 use Rattle.ts_carrier.specs.declared.rotation.Rotation.{Rotation}
 
--- how far a node is behind the first of its group, which is another one at each position
+-- how far a node is behind the first of its group, which is another one for each eight positions
 abbrev pub distance : ℕ → ℕ → ℕ → ℕ
-distance node nodes position = (node + max nodes 1 - position % max nodes 1) % max nodes 1
+distance node nodes position = (node + max nodes 1 - position / 8 % max nodes 1) % max nodes 1
 
 -- a node was seen to propose within the last second, and comes before this one at a position
 abbrev pub is_before : Rotation → ℕ → ℕ → Rival → Bool

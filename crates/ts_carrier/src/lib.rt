@@ -50,9 +50,9 @@
 //!   yet, and a whole Submit begins here. Each event leaves the state of `specs/Gate`: after
 //!   `begin`, `tried`, `refuse` and `learn` the command is proposed again then, and it is given up
 //!   ten seconds after it was submitted or another one was chosen; after `end` the next one is
-//!   taken then. `patience`: how long nothing of this is due. At each position another one of the
-//!   nodes that propose is the first, and each further one waits for as long as a position takes,
-//!   so that nodes that all have commands choose one after another (`specs/Rotation`).
+//!   taken then. `patience`: how long nothing of this is due. Of each eight positions another one
+//!   of the nodes that propose is the first, and each further one waits for as long as a position
+//!   takes, so that nodes that all have commands choose one after another (`specs/Rotation`).
 //!
 //! # Not promised
 //!

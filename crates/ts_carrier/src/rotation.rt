@@ -9,6 +9,10 @@ use std::alloc::{AllocError, Global};
 /// The most milliseconds that a position is taken to need.
 const LONGEST_PACE: u64 = 500;
 
+/// How many positions one after the other have the same node as the first: it need not wait between
+/// them until it has learned what another node proposed.
+const BLOCK: u32 = 8;
+
 /// For how many milliseconds a node has its turn after it was seen to propose.
 const RIVALRY: u64 = 1_000;
 
@@ -19,9 +23,9 @@ pub struct Rival {
     seen: u64,
 }
 
-/// The order in which the nodes of a group propose, so that none refuses another's round: at each
-/// position another one of those that were seen to propose a short while ago is the first, and each
-/// further one waits for as long as a position takes. Moments are milliseconds.
+/// The order in which the nodes of a group propose, so that none refuses another's round: of each
+/// eight positions another one of those that were seen to propose a short while ago is the first,
+/// and each further one waits for as long as a position takes. Moments are milliseconds.
 #[derive(Debug, Drop)]
 pub struct Rotation {
     /// The number of the node.
@@ -39,7 +43,7 @@ fn distance(node: u8, nodes: u8, position: u32) -> u64
     ensures { result ≡ distance node nodes position }
 {
     let nodes = u64::from(nodes.max(1));
-    (u64::from(node) + nodes - u64::from(position) % nodes) % nodes
+    (u64::from(node) + nodes - u64::from(position / BLOCK) % nodes) % nodes
 }
 
 impl Rotation {
